@@ -20,7 +20,7 @@ _lfsed() {
   local current=${COMP_WORDS[COMP_CWORD]} before=${COMP_WORDS[COMP_CWORD - 1]} options= words= block= image= at at_word=0 named
   COMPREPLY=()
   if [ "$COMP_CWORD" = 1 ]; then
-    mapfile -t COMPREPLY < <(compgen -W 'format pack repack find extract salvage check ls blocks cat diff log mkdir put rm mv setattr rmattr grow undo redo forget batch explain help --help --version' -- "$current")
+    mapfile -t COMPREPLY < <(compgen -W 'format pack repack find extract salvage check ls blocks cat diff log mkdir put rm mv setattr rmattr grow sync undo redo forget batch explain help --help --version' -- "$current")
     return
   fi
   case $before in
@@ -86,15 +86,15 @@ _lfsed() {
       words='IMAGE'
       ;;
     mkdir)
-      options='-b --block --keep --older -h --help'
+      options='-b --block -p --parents --keep --older -h --help'
       words='IMAGE PATH'
       ;;
     put)
-      options='-b --block --from --keep --older -h --help'
+      options='-b --block --from -p --parents --keep --older -h --help'
       words='IMAGE PATH'
       ;;
     rm)
-      options='-b --block --keep --older -h --help'
+      options='-b --block -r --recursive --keep --older -h --help'
       words='IMAGE PATH'
       ;;
     mv)
@@ -112,6 +112,10 @@ _lfsed() {
     grow)
       options='-b --block --size --keep --older -h --help'
       words='IMAGE COUNT'
+      ;;
+    sync)
+      options='-b --block --keep --older -h --help'
+      words='IMAGE DIR PATH'
       ;;
     undo)
       options='-b --block --steps --older -h --help'
@@ -168,7 +172,7 @@ _lfsed() {
     DIR) mapfile -t COMPREPLY < <(compgen -d -- "$current") ;;
     PATH | FROM | TO) _lfsed_offer < <(_lfsed_paths "$image" "$block") ;;
     FAULT) mapfile -t COMPREPLY < <(compgen -W '1 2 3 4 5 6 7 8 9 10 11 12 13 14 15 16 17 18 19 20 21 30 31 32 33 34 35 36 37 38 39 40 41 42 43 44 46 50 51 52 53 54 55 60 61 62 63 64 65 ImageLength BadGeometry NoValidCommit UnknownTag BadTag IncompleteEntry BadName BadSkipList NoSuperblock Version Geometry Limits OrderFault BlockRange BlockTwice MissingDirectory Orphan UnfinishedMove SuperblockElsewhere BadSize UnknownState NotFound Exists NotADirectory IsADirectory NotEmpty BadPath NameTooLong FileTooLarge AttrTooLarge NoAttr IntoItself IsRoot EntryTooLarge NoSpace Memory BadCount JournalFormat JournalMismatch JournalImage NothingToUndo NothingToRedo JournalFull CannotRead CannotWrite HostEntry HostName BadHex BadLine' -- "$current") ;;
-    COMMAND) mapfile -t COMPREPLY < <(compgen -W 'format pack repack find extract salvage check ls blocks cat diff log mkdir put rm mv setattr rmattr grow undo redo forget batch explain' -- "$current") ;;
+    COMMAND) mapfile -t COMPREPLY < <(compgen -W 'format pack repack find extract salvage check ls blocks cat diff log mkdir put rm mv setattr rmattr grow sync undo redo forget batch explain' -- "$current") ;;
   esac
 }
 complete -o filenames -F _lfsed lfsed

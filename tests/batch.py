@@ -389,6 +389,7 @@ HEX = "HEX isn't two digits for each byte, 0 to 9 or a to f"
 BAD_LINES = (
     *((line, BAD_LINE, 1, UNKNOWN) for line in (
         b"make /a", b"MKDIR /a", b"ls", b"check", b"format 8", b"cat /a", b"batch steps", b"lfsed mkdir /a", b"mk\\x64", b"/a",
+        b"sync src", b"sync src /a",
     )),
     *((line, BAD_LINE, 8, ESCAPE) for line in (
         b"mkdir /\\", b"mkdir /\\x", b"mkdir /\\x2", b"mkdir /\\x2g", b"mkdir /\\n", b"mkdir /\\\\", b"mkdir /\\X20",
@@ -407,7 +408,8 @@ BAD_LINES = (
         (b"mk\\x64ir", 9, FEW + "mkdir PATH"),
         (b"mkdir /a /b", 10, MANY + "mkdir PATH"), (b"mkdir a.img /a", 13, MANY + "mkdir PATH"),
         (b"put /a h0 h1", 11, MANY + "put PATH FILE"), (b"put /a --from h0", 15, MANY + "put PATH FILE"),
-        (b"rm /a /b", 7, MANY + "rm PATH"), (b"mv /it's /b /c", 13, MANY + "mv FROM TO"),
+        (b"rm /a /b", 7, MANY + "rm PATH"), (b"rm -r /a", 7, MANY + "rm PATH"), (b"mkdir -p /a", 10, MANY + "mkdir PATH"),
+        (b"put -p /a h0", 11, MANY + "put PATH FILE"), (b"mv /it's /b /c", 13, MANY + "mv FROM TO"),
         (b"setattr / 74 01 02", 17, MANY + "setattr PATH KIND HEX"), (b"rmattr / 74 01", 13, MANY + "rmattr PATH KIND"),
         (b"grow 9 10", 8, MANY + "grow COUNT"), (b"grow --size 8k", 13, MANY + "grow COUNT"),
         (b"undo 2", 6, MANY + "undo"), (b"redo 2", 6, MANY + "redo"), (b"forget /", 8, MANY + "forget"),

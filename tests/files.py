@@ -163,11 +163,13 @@ def output_that_is_cut(files):
 
 def an_image_that_another_keeps(files):
     """A run that changes an image which another program keeps ends with 61, and one that reads it reads it."""
+    make_source(files)
     with open(files.image, "rb") as kept:
         fcntl.flock(kept, fcntl.LOCK_EX)
         for words in (
             ["mkdir", "--block", "512", "a.img", "/d"], ["format", "--block", "512", "--count", "8", "a.img"],
-            ["repack", "--block", "512", "a.img", "a.img"],
+            ["repack", "--block", "512", "a.img", "a.img"], ["sync", "--block", "512", "a.img", "src"],
+            ["mkdir", "--block", "512", "-p", "a.img", "/d/e"],
         ):
             files.refused(f"{words[0]} of an image that is kept", words, NOT_WRITTEN, "")
         for words in (
@@ -179,7 +181,14 @@ def an_image_that_another_keeps(files):
     files.must(["mkdir", "--block", "512", "a.img", "/d"])
 
 
-# Runs, and for each the calls of the C library that it makes.
+def make_source(files):
+    """A folder that an image is made like."""
+    (files.folder / "src/d").mkdir(parents=True)
+    (files.folder / "src/d/f").write_bytes(b"contents")
+
+
+# Runs, and for each the calls of the C library that it makes. What a folder is read by is tried in tests/syncing.py too, where a file
+# whose length isn't known may be read all the same.
 RUNS_THAT_CALL = (
     (["check", "a.img"], "open read write statx"),
     (["check", "--device", "a.img"], "open read write statx"),
@@ -187,6 +196,11 @@ RUNS_THAT_CALL = (
     (["put", "link.img", "/f"], "open read write statx flock fchmod fsync rename realpath"),
     (["batch", "a.img", "steps"], "open read write statx flock fchmod fsync rename"),
     (["batch", "--one", "a.img", "steps"], "open read write statx flock fchmod fsync rename"),
+    (["sync", "a.img", "src"], "open read write flock fchmod fsync rename"),
+    (["sync", "link.img", "src", "/synced"], "open read write flock fchmod fsync rename realpath"),
+    (["rm", "-r", "a.img", "/old"], "open read write statx flock fchmod fsync rename"),
+    (["mkdir", "-p", "a.img", "/x/y"], "open read write statx flock fchmod fsync rename"),
+    (["put", "-p", "a.img", "/x/y"], "open read write statx flock fchmod fsync rename"),
     (["undo", "a.img"], "open read write statx flock fchmod fsync rename"),
     (["forget", "a.img"], "open read write statx flock fchmod fsync rename"),
     (["format", "--count", "8", "a.img"], "open write statx flock fchmod fsync rename"),
@@ -208,6 +222,7 @@ def calls_that_fail(files):
     (files.folder / "link.img").symlink_to("a.img")
     files.must(["format", "--block", "512", "--count", "16", "b.img"])
     (files.folder / "steps").write_bytes(b"mkdir /made\nsetattr /old 74 01\n")
+    make_source(files)
     (files.folder / "flash.bin").write_bytes(bytes(700) + files.image.read_bytes() + bytes(99))
     with tempfile.TemporaryDirectory() as folder:
         os.chmod(folder, 0o755)
@@ -267,10 +282,12 @@ def links_and_rights(files):
 def write_protected(files):
     """A file that nobody has the right to write isn't replaced, whoever runs the program; nor is its journal."""
     files.must(["mkdir", "--block", "512", "a.img", "/kept"])
+    make_source(files)
     files.image.chmod(0o444)
     for words in (
         ["put", "--block", "512", "a.img", "/f"], ["undo", "--block", "512", "a.img"], ["forget", "--block", "512", "a.img"],
         ["format", "--block", "512", "--count", "8", "a.img"], ["repack", "--block", "512", "a.img", "a.img"],
+        ["sync", "--block", "512", "a.img", "src"], ["rm", "--block", "512", "-r", "a.img", "/kept"],
     ):
         files.refused(f"write-protected: {words[0]}", words, NOT_WRITTEN, "a.img: is write-protected")
     files.must(["ls", "--block", "512", "a.img"])
@@ -301,12 +318,15 @@ def standard_files_that_are_closed(files):
     put = ["put", "--block", "512", "a.img", "/x"]
     said = "lfsed: standard input: it is closed"
     files.refused("closed input", put, NOT_READ, said, preexec_fn=lambda: close([0]))
+    files.refused("closed input, with parents", [*put[:3], "-p", "a.img", "/n/x"], NOT_READ, said, preexec_fn=lambda: close([0]))
     check = ["check", "--block", "512", "a.img"]
     files.refused("closed output", check, NOT_WRITTEN, "lfsed: standard output: ", preexec_fn=lambda: close([1]))
     for set_of in range(8):
         closed = [number for number in range(3) if set_of >> number & 1]
         status, _ = files.run(["mkdir", "--block", "512", "a.img", f"/closed{set_of}"], preexec_fn=lambda: close(closed))
         files.check(f"a change without {closed}", status == 0, status)
+        status, _ = files.run(["mkdir", "-p", "--block", "512", "a.img", f"/closed{set_of}/n/m"], preexec_fn=lambda: close(closed))
+        files.check(f"directories without {closed}", status == 0, status)
         status, _ = files.run(put, b"contents", preexec_fn=lambda: close(closed))
         files.check(f"contents without {closed}", status == (4 if 0 in closed else 0), status)
     printed = subprocess.run([files.program, "ls", "--block", "512", "a.img"], cwd=files.folder, stdout=subprocess.PIPE, text=True).stdout

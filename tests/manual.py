@@ -17,7 +17,7 @@ INSTALLED = {
     "share/zsh/site-functions/_lfsed": "completions/_lfsed",
     "share/fish/vendor_completions.d/lfsed.fish": "completions/lfsed.fish",
 }
-COMMANDS = "batch blocks cat check diff explain extract find forget format grow log ls mkdir mv pack put redo repack rm rmattr salvage setattr undo"
+COMMANDS = "batch blocks cat check diff explain extract find forget format grow log ls mkdir mv pack put redo repack rm rmattr salvage setattr sync undo"
 # The words of a command line, of which the last one is completed, and what it may become.
 COMPLETED = [
     ("lfsed ", f"--help --version {COMMANDS} help"),
@@ -68,9 +68,18 @@ COMPLETED = [
     ("lfsed batch fw.img fw.img ", ""),
     ("lfsed re", "redo repack"),
     ("lfsed extract --d", "--device"),
-    ("lfsed s", "salvage setattr"),
+    ("lfsed s", "salvage setattr sync"),
     ("lfsed salvage -", "--block --device --help --offset --older -b -h"),
     ("lfsed salvage fw.img ", "src"),
+    ("lfsed sync -", "--block --help --keep --older -b -h"),
+    ("lfsed sync f", "fw.img"),
+    ("lfsed sync fw.img ", "src"),
+    ("lfsed sync fw.img src ", ""),
+    ("lfsed sync fw.img src / ", ""),
+    ("lfsed rm -", "--block --help --keep --older --recursive -b -h -r"),
+    ("lfsed rm -r f", "fw.img"),
+    ("lfsed mkdir -", "--block --help --keep --older --parents -b -h -p"),
+    ("lfsed put --p", "--parents"),
     ("lfsed undo --d", ""),
     ("lfsed repack --", "--attr-max --block --count --device --file-max --from-block --help --least --name-max --new --offset --older --size"),
     ("lfsed repack f", "fw.img"),

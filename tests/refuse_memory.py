@@ -141,6 +141,41 @@ def folder_rows(runs):
     runs.row(["extract", "a.img", "src"], packed)
 
 
+def tree_rows(runs):
+    """Changes of whole trees: a folder that an image is made like, also below a path, and where it is so already; directories that go with
+    all below them and come with those above them; and each where it is refused, in the middle of the folder too."""
+    place, host = runs.files[0].with_name("src"), runs.files[0].with_name("host")
+    (place / "d").mkdir(parents=True)
+    (place / "d/f").write_bytes(bytes(600))
+    (place / "new").write_bytes(b"new")
+    host.write_bytes(bytes(600))
+    new = runs.row(["format", "--count=24", "--name-max=9", "a.img"], NOTHING)
+    made = runs.row(["sync", "a.img", "src"], new)
+    runs.row(["sync", "a.img", "src", "/"], made)
+    (place / "new").unlink()
+    (place / "d/f").write_bytes(bytes(599))
+    for path in [], ["/d"], ["/d/f"], ["/e"], ["/none/e"], ["/new/e"], ["bad"]:
+        runs.row(["sync", "--keep=2", "a.img", "src", *path], made)
+    other = runs.row(["mkdir", "a.img", "/d/e"], runs.row(["setattr", "a.img", "/d", "74", "01"], made))
+    undone = runs.row(["undo", "a.img"], other)
+    for path in "/d", "/d/f", "/", "/none", "/d/f/x":
+        runs.row(["rm", "-r", "a.img", path], other)
+    for path in "/d", "/d/x/y", "/x/y/z", "/new", "/new/x/y", "/x/ten-bytes-":
+        runs.row(["mkdir", "-p", "a.img", path], undone)
+    for path in "/d/f", "/d/x/y", "/d", "/", "/new/x/y":
+        runs.row(["put", "-p", "a.img", path], undone, bytes(600))
+    runs.row(["put", "--parents", "--from=host", "--keep=1", "a.img", "/x/y"], undone)
+    runs.row(["put", "-p", "--from=none", "a.img", "/x/y"], undone)
+    (place / "a").mkdir()
+    for name, held in ("a/long-names-", b""), ("a/large", bytes(9_000)):
+        (place / name).write_bytes(held)
+        runs.row(["sync", "a.img", "src"], undone)
+        (place / name).unlink()
+    (place / "d/link").symlink_to("f")
+    runs.row(["sync", "a.img", "src"], undone)
+    runs.row(["sync", "a.img", "none"], undone)
+
+
 def history_rows(runs):
     """Changes that are taken back, made again, dropped and forgotten, and histories that lead to images that don't mount."""
     new = runs.row(["format", "--count=8", "a.img"], NOTHING)
@@ -323,7 +358,7 @@ def tried(group):
 
 
 GROUPS = [
-    history_rows, script_rows, repacking_rows, device_rows, flash_rows, rows, directory_rows, small_block_rows, folder_rows, comparing_rows,
+    history_rows, script_rows, tree_rows, repacking_rows, device_rows, flash_rows, rows, directory_rows, small_block_rows, folder_rows, comparing_rows,
     growing_rows, salvage_rows,
 ]
 

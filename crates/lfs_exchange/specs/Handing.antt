@@ -13,7 +13,7 @@ use Rattle.lfs_command.specs.declared.command.Command.TheVariants.{Put}
 use Rattle.lfs_history.specs.declared.moves.Move.{Move}
 use Rattle.lfs_history.specs.declared.moves.Move.TheVariants.{Do}
 use Rattle.lfs_history.specs.declared.source.Source.{Source}
-use Rattle.lfs_history.specs.declared.source.Source.TheVariants.{File, Input}
+use Rattle.lfs_history.specs.declared.source.Source.TheVariants.{File, Input, Said}
 use Rattle.lfs_request.specs.declared.query.Query.{Query}
 use Rattle.lfs_request.specs.declared.query.Query.TheVariants.{Check, Ls, Blocks, Cat, Diff, Log}
 use Rattle.lfs_request.specs.Query.{Question}
@@ -44,18 +44,32 @@ HandsJournal Changes files name journal = FindsFile files (journal_name name) mo
 HandsJournal Recounts files name journal = FindsFile files (journal_name name) most_journal journal
 HandsJournal _ files name journal = journal ≡ []
 
--- what is read for a step on a history: the contents that it puts, of a file of the host or on standard input
+-- what is read of a source of contents: a file of the host, or standard input
+abbrev pub HandsSource : Source → Option Files → Option (List ℕ) → List ℕ → Type 0
+HandsSource Input files typed input = ReadsInput typed most_file input
+HandsSource (File name) files typed input = ReadsFile files name.now most_file input
+HandsSource (Said bytes) files typed input = input ≡ []
+
+-- what is read for a step on a history: the contents that it puts
 abbrev pub HandsInput : Move Source → Option Files → Option (List ℕ) → List ℕ → Type 0
-HandsInput (Do (Put path Input) keep) files typed input = ReadsInput typed most_file input
-HandsInput (Do (Put path (File name)) keep) files typed input = ReadsFile files name.now most_file input
+HandsInput (Do (Put path source) keep) files typed input = HandsSource source files typed input
 HandsInput _ files typed input = input ≡ []
 
--- whether a step reads standard input
+-- whether a source is standard input
+abbrev pub is_input : Source → Bool
+is_input Input = true
+is_input _ = false
+
+-- whether a step reads it
 abbrev pub reads_input : Move Source → Bool
-reads_input (Do (Put path Input) keep) = true
+reads_input (Do (Put path source) keep) = is_input source
 reads_input _ = false
 
--- a step that doesn't leaves it as it was
+-- where a source is another one, standard input is left as it was
+abbrev pub LeavesSource : Source → Scene → Scene → Type 0
+LeavesSource source old new = is_input source ≡ false → new.typed ≡ old.typed
+
+-- a step that doesn't read it leaves it as it was
 abbrev pub LeavesInput : Move Source → Scene → Scene → Type 0
 LeavesInput step old new = reads_input step ≡ false → new.typed ≡ old.typed
 

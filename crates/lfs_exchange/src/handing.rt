@@ -7,8 +7,8 @@ ghost use Rattle.lfs_request.specs.declared.other_fault.OtherFault.TheVariants a
 ghost use Rattle.lfs_fs.specs.Limits.{most_file};
 ghost use Rattle.lfs_host.specs.Files.{FindsFile, IsMissing, IsTarget, ReadsFile, ReadsFrom, ReadsInput};
 ghost use Rattle.lfs_host.specs.Scene.{HasClaimed, HasRefused, KeepsAll, KeepsOutput, KeepsSeen};
-ghost use Rattle.lfs_exchange.specs.Handing.{HandsImage, HandsInput, HandsJournal, HandsQuestion, IsClaimed, IsHanded, IsNotAimed, IsNotLocked};
-ghost use Rattle.lfs_exchange.specs.Handing.{IsNotTakenUp, IsOtherUnread, IsUnread, IsUnreadFor, LeavesInput, fault_at, fault_of_reading, most_image};
+ghost use Rattle.lfs_exchange.specs.Handing.{HandsImage, HandsInput, HandsJournal, HandsQuestion, HandsSource, IsClaimed, IsHanded, IsNotAimed, IsNotLocked};
+ghost use Rattle.lfs_exchange.specs.Handing.{IsNotTakenUp, IsOtherUnread, IsUnread, IsUnreadFor, LeavesInput, LeavesSource, fault_at, fault_of_reading, most_image};
 ghost use Rattle.lfs_exchange.specs.declared.step_kind.StepKind.TheVariants.{Makes};
 ghost use Rattle.lfs_exchange.specs.Storing.{journal_name};
 
@@ -199,7 +199,23 @@ pub fn input_of<H: Host>(
     else {
         return Ok(Vec::new(alloc));
     };
-    match bytes {
+    source_read(alloc, host, bytes)
+}
+
+/// What is read of a source of contents: a file of the host, or standard input; nothing of bytes that are said. Takes memory.
+///
+/// Source: own.
+pub fn source_read<H: Host>(
+    alloc: Global,
+    host: &mut H,
+    source: &Source<'_>,
+) -> Result<Vec<u8>, Fault>
+    ensures input { IfOk result (λ input. HandsSource source.now (H.known host.old).files (H.known host.old).typed input.items) }
+    ensures refused { IfErr result (IsUnread (H.known host.new)) }
+    ensures unread { LeavesSource source.now (H.known host.old) (H.known host.new) }
+    ensures kept { KeepsOutput (H.known host.old) (H.known host.new) }
+{
+    match source {
         Source::Input => read_input(alloc, host),
         Source::File(name) => read_contents(alloc, host, name),
         Source::Said(_) => Ok(Vec::new(alloc)),

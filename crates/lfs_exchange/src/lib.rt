@@ -11,8 +11,8 @@ mod storing;
 mod telling;
 
 pub use handing::{
-    Handed, fault_of_reading, input_of, question_of, read_contents, read_input, read_other, spare,
-    taken_up,
+    Handed, fault_of_reading, input_of, question_of, read_contents, read_input, read_other,
+    source_read, spare, taken_up,
 };
 pub use names::{Names, names_of};
 pub use output::Output;

@@ -210,6 +210,45 @@ batching_says : (text_at (codes "script") batching ≡ Some (Some (codes "steps"
 unfolding clap_on_literals
 batching_says = (refl, refl, refl, refl, refl, refl)
 
+-- lfsed rm -r a.img /a, and mkdir --parents, and put -p
+abbrev removing_all : List Text
+removing_all = codes "lfsed" ∷ codes "rm" ∷ codes "-r" ∷ codes "a.img" ∷ codes "/a" ∷ []
+
+abbrev making_all : List Text
+making_all = codes "lfsed" ∷ codes "mkdir" ∷ codes "a.img" ∷ codes "--parents" ∷ codes "/a/b" ∷ []
+
+abbrev putting_all : List Text
+putting_all = codes "lfsed" ∷ codes "put" ∷ codes "-p" ∷ codes "a.img" ∷ codes "/a/b" ∷ []
+
+trees_are_taken : IsTaken removing_all × IsTaken making_all × IsTaken putting_all
+unfolding clap_on_literals
+trees_are_taken = (refl, refl, refl)
+
+trees_say : (text_at (codes "recursive") removing_all ≡ Some (Some (codes "true")))
+    × (text_at (codes "recursive") (codes "lfsed" ∷ codes "rm" ∷ codes "a.img" ∷ codes "/a" ∷ []) ≡ Some (Some (codes "false")))
+    × (text_at (codes "parents") making_all ≡ Some (Some (codes "true")))
+    × (text_at (codes "parents") putting_all ≡ Some (Some (codes "true")))
+unfolding clap_on_literals
+trees_say = (refl, refl, refl, refl)
+
+-- lfsed sync --keep 3 a.img dir /a, and of the whole image
+abbrev syncing : List Text
+syncing = codes "lfsed" ∷ codes "sync" ∷ codes "--keep" ∷ codes "3" ∷ codes "a.img" ∷ codes "dir" ∷ codes "/a" ∷ []
+
+abbrev syncing_all : List Text
+syncing_all = codes "lfsed" ∷ codes "sync" ∷ codes "a.img" ∷ codes "dir" ∷ []
+
+syncing_is_taken : IsTaken syncing × IsTaken syncing_all
+unfolding clap_on_literals
+syncing_is_taken = (refl, refl)
+
+syncing_says : (text_at (codes "dir") syncing ≡ Some (Some (codes "dir")))
+    × (text_at (codes "path") syncing ≡ Some (Some (codes "/a")))
+    × (text_at (codes "dir") syncing_all ≡ Some (Some (codes "dir")))
+    × (text_at (codes "path") syncing_all ≡ Some None)
+unfolding clap_on_literals
+syncing_says = (refl, refl, refl, refl)
+
 -- how many blocks needn't be said, as far as the grammar goes
 no_count_is_taken : IsTaken (codes "lfsed" ∷ codes "format" ∷ codes "a.img" ∷ [])
 unfolding clap_on_literals

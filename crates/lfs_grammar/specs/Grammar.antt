@@ -107,6 +107,22 @@ sum = flag (codes "sum")
 abbrev pub one : Rule
 one = flag (codes "one")
 
+-- an option without a value that has a letter too
+abbrev pub flag_or : Text → ℕ → Rule
+flag_or id letter = record (flag id) { short = Some letter }
+
+-- all goes that is below a directory too: `-r`
+abbrev pub recursive : Rule
+recursive = flag_or (codes "recursive") 114
+
+-- parents are made that lack: `-p`
+abbrev pub parents : Rule
+parents = flag_or (codes "parents") 112
+
+-- a path in the image, which needn't be said
+abbrev pub synced_path : Rule
+synced_path = record (new_rule (codes "path")) { value_names = 1 }
+
 -- images are read as a device does
 abbrev pub device : Rule
 device = flag (codes "device")
@@ -150,6 +166,8 @@ rule_at argument.AttrMaxOrSource = attr_max_or_source
 rule_at argument.New = is_new
 rule_at argument.Sum = sum
 rule_at argument.One = one
+rule_at argument.Recursive = recursive
+rule_at argument.Parents = parents
 rule_at argument.Device = device
 rule_at argument.Offset = offset
 rule_at argument.OffsetInSource = offset
@@ -164,6 +182,8 @@ rule_at argument.Flash = word (codes "flash")
 rule_at argument.Dir = word (codes "dir")
 rule_at argument.NewDir = word (codes "dir")
 rule_at argument.Path = word (codes "path")
+rule_at argument.SyncedPath = synced_path
+rule_at argument.SyncedDir = word (codes "dir")
 rule_at argument.Contents = contents
 rule_at argument.Script = script
 rule_at argument.From = word (codes "from")
@@ -197,6 +217,7 @@ form_rule (form.NumberOr name least most default) id = record (number_within id 
 form_rule form.Block id = block_option id
 form_rule (form.BlockNumber least most) id = record (block_option id) { parser = Some (Signed least most) }
 form_rule form.Flag id = flag id
+form_rule (form.FlagOr letter) id = flag_or id letter
 
 -- what a row of the arguments stands for
 abbrev pub row_rule : ArgumentRow → Rule
@@ -245,7 +266,7 @@ abbrev pub is_change : Text → Bool
 is_change name =
     bytes_eq name (codes "mkdir") || bytes_eq name (codes "put") || bytes_eq name (codes "rm") || bytes_eq name (codes "mv")
     || bytes_eq name (codes "setattr") || bytes_eq name (codes "rmattr") || bytes_eq name (codes "grow")
-    || bytes_eq name (codes "batch")
+    || bytes_eq name (codes "batch") || bytes_eq name (codes "sync")
 
 -- a command of this name takes no image: it looks for images, or explains
 abbrev pub TakesNoImage : Text → Type 0
@@ -266,13 +287,14 @@ commands =
     ∷ asking (codes "cat") (word (codes "path") ∷ [])
     ∷ asking (codes "diff") (word (codes "other") ∷ [])
     ∷ reading (codes "log") []
-    ∷ changing (codes "mkdir") (word (codes "path") ∷ [])
-    ∷ changing (codes "put") (word (codes "path") ∷ contents ∷ [])
-    ∷ changing (codes "rm") (word (codes "path") ∷ [])
+    ∷ changing (codes "mkdir") (word (codes "path") ∷ parents ∷ [])
+    ∷ changing (codes "put") (word (codes "path") ∷ contents ∷ parents ∷ [])
+    ∷ changing (codes "rm") (word (codes "path") ∷ recursive ∷ [])
     ∷ changing (codes "mv") (word (codes "from") ∷ word (codes "to") ∷ [])
     ∷ changing (codes "setattr") (word (codes "path") ∷ word (codes "kind") ∷ word (codes "hex") ∷ [])
     ∷ changing (codes "rmattr") (word (codes "path") ∷ word (codes "kind") ∷ [])
     ∷ changing (codes "grow") (new_count ∷ size ∷ [])
+    ∷ changing (codes "sync") (word (codes "dir") ∷ synced_path ∷ [])
     ∷ reading (codes "undo") (steps ∷ [])
     ∷ reading (codes "redo") (steps ∷ [])
     ∷ reading (codes "forget") []

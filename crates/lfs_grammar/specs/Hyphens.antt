@@ -24,9 +24,17 @@ names_limit_option word =
 abbrev pub names_past_option : Text → Bool
 names_past_option word = begins_with word (codes "--keep") || begins_with word (codes "--steps")
 
+-- an option of a change of a whole tree, by its long name
+abbrev pub names_tree_option : Text → Bool
+names_tree_option word = begins_with word (codes "--recursive") || begins_with word (codes "--parents")
+
+-- an option of several commands that are one change, by its long name
+abbrev pub names_joint_option : Text → Bool
+names_joint_option word = begins_with word (codes "--one") || names_tree_option word
+
 -- an option of a change, by its long name
 abbrev pub names_change_option : Text → Bool
-names_change_option word = names_past_option word || begins_with word (codes "--one")
+names_change_option word = names_past_option word || names_joint_option word
 
 -- an option that says how an image is looked at, by its long name
 abbrev pub names_view_option : Text → Bool
@@ -43,10 +51,17 @@ abbrev pub names_long_option : Text → Bool
 names_long_option word =
     names_new_option word || names_limit_option word || names_change_option word || names_image_option word
 
+-- an option of a change of a whole tree, by its letter
+abbrev pub is_tree_letter : Text → Bool
+is_tree_letter word = bytes_eq word (codes "-r") || bytes_eq word (codes "-p")
+
+-- an option by its letter, behind which the block size may stand
+abbrev pub names_letter : Text → Bool
+names_letter word = begins_with word (codes "-b") || is_tree_letter word
+
 -- an option, or a call for help
 abbrev pub names_option : Text → Bool
-names_option word =
-    begins_with word (codes "-b") || names_long_option word || bytes_eq word (codes "-h") || bytes_eq word (codes "--help")
+names_option word = names_letter word || names_long_option word || bytes_eq word (codes "-h") || bytes_eq word (codes "--help")
 
 -- a word that begins with a hyphen and is no option
 abbrev pub is_stray : Text → Bool

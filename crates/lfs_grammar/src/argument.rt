@@ -43,6 +43,10 @@ pub(crate) enum Argument {
     Sum,
     /// That the steps of a script are one change.
     One,
+    /// That all goes that is below a directory too.
+    Recursive,
+    /// That parents are made that lack.
+    Parents,
     /// That images are read as a device does.
     Device,
     /// Where in its file an image begins.
@@ -71,6 +75,10 @@ pub(crate) enum Argument {
     NewDir,
     /// A path within the image.
     Path,
+    /// The same, of a directory that becomes what a folder holds; the root where it isn't said.
+    SyncedPath,
+    /// The name of a folder that an image is made like.
+    SyncedDir,
     /// The name of the file that contents are read from.
     Contents,
     /// The name of the file that steps are read from.
@@ -112,6 +120,8 @@ enum Form {
     BlockNumber(i64, i64),
     /// By an option without a value, which is named as the argument.
     Flag,
+    /// The same, which has a letter too.
+    FlagOr(char),
 }
 
 /// What an argument takes, and what the help says of it.
@@ -233,6 +243,20 @@ static ONE: ArgumentRow = ArgumentRow {
     help: "Make one change of all steps, which one undo takes back; undo, redo and forget are none of them",
 };
 
+/// That all goes that is below a directory too.
+static RECURSIVE: ArgumentRow = ArgumentRow {
+    id: "recursive",
+    form: Form::FlagOr('r'),
+    help: "Remove a directory with all that is below it, as one change",
+};
+
+/// That parents are made that lack.
+static PARENTS: ArgumentRow = ArgumentRow {
+    id: "parents",
+    form: Form::FlagOr('p'),
+    help: "Make the directories above it too where they lack, as one change",
+};
+
 /// That images are read as a device does.
 static DEVICE: ArgumentRow = ArgumentRow {
     id: "device",
@@ -331,6 +355,20 @@ static PATH: ArgumentRow = ArgumentRow {
     help: "Path of a file or a directory in the image, from / on",
 };
 
+/// A directory that becomes what a folder holds.
+static SYNCED_PATH: ArgumentRow = ArgumentRow {
+    id: "path",
+    form: Form::SpareWord("PATH"),
+    help: "Path in the image that is made like the folder, from / on; all of it where none is said",
+};
+
+/// The name of a folder that an image is made like.
+static SYNCED_DIR: ArgumentRow = ArgumentRow {
+    id: "dir",
+    form: Form::Word("DIR"),
+    help: "Folder, whose files and folders the image gets",
+};
+
 /// The file that contents are read from.
 static CONTENTS: ArgumentRow = ArgumentRow {
     id: "contents",
@@ -401,6 +439,8 @@ fn row_of(argument: Argument) -> &'static ArgumentRow
         Argument::New => &NEW,
         Argument::Sum => &SUM,
         Argument::One => &ONE,
+        Argument::Recursive => &RECURSIVE,
+        Argument::Parents => &PARENTS,
         Argument::Device => &DEVICE,
         Argument::Offset => &OFFSET,
         Argument::OffsetInSource => &OFFSET_IN_SOURCE,
@@ -415,6 +455,8 @@ fn row_of(argument: Argument) -> &'static ArgumentRow
         Argument::Dir => &DIR,
         Argument::NewDir => &NEW_DIR,
         Argument::Path => &PATH,
+        Argument::SyncedPath => &SYNCED_PATH,
+        Argument::SyncedDir => &SYNCED_DIR,
         Argument::Contents => &CONTENTS,
         Argument::Script => &SCRIPT,
         Argument::From => &FROM,
@@ -458,6 +500,7 @@ fn formed<'a>(alloc: Global, row: &ArgumentRow) -> Arg<'a>
             block(alloc, row).value_parser(ValueParser::Signed(least, most))
         }
         Form::Flag => flag(alloc, row),
+        Form::FlagOr(letter) => flag(alloc, row).short(letter),
     }
 }
 

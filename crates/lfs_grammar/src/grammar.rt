@@ -47,7 +47,7 @@ pub const REPACK_USAGE: &str = "lfsed repack [OPTIONS] <IMAGE> <SOURCE>";
 pub const GROW_USAGE: &str = "lfsed grow [OPTIONS] <IMAGE> <COUNT|--size <BYTES>>";
 
 /// The program's commands, in the order of its help. Each but the last takes the block size and the image's file name.
-static COMMANDS: [CommandRow; 24] = [
+static COMMANDS: [CommandRow; 25] = [
     CommandRow {
         name: "format",
         about: "Write a new image, in place of a file of this name",
@@ -210,6 +210,7 @@ static COMMANDS: [CommandRow; 24] = [
             Argument::Block,
             Argument::Image,
             Argument::Path,
+            Argument::Parents,
             Argument::Keep,
             Argument::Older,
         ],
@@ -223,6 +224,7 @@ static COMMANDS: [CommandRow; 24] = [
             Argument::Image,
             Argument::Path,
             Argument::Contents,
+            Argument::Parents,
             Argument::Keep,
             Argument::Older,
         ],
@@ -235,6 +237,7 @@ static COMMANDS: [CommandRow; 24] = [
             Argument::Block,
             Argument::Image,
             Argument::Path,
+            Argument::Recursive,
             Argument::Keep,
             Argument::Older,
         ],
@@ -288,6 +291,19 @@ static COMMANDS: [CommandRow; 24] = [
             Argument::Image,
             Argument::NewCount,
             Argument::Size,
+            Argument::Keep,
+            Argument::Older,
+        ],
+    },
+    CommandRow {
+        name: "sync",
+        about: "Make an image like a folder, as one change: what is equal stays as it is",
+        usage: None,
+        arguments: &[
+            Argument::Block,
+            Argument::Image,
+            Argument::SyncedDir,
+            Argument::SyncedPath,
             Argument::Keep,
             Argument::Older,
         ],

@@ -2,7 +2,8 @@
 
 ghost use Rattle.std.specs.Prelude.{◌≡◌, IfOk, map};
 ghost use Rattle.clap.specs.Words.{first_of, found_of, rows_of, subcommand_rows_of};
-ghost use Rattle.lfs_grammar.specs.Hyphens.{are_plain_names, dashed, is_plain_name, is_stray, names_change_option, names_files_plainly};
+ghost use Rattle.lfs_grammar.specs.Hyphens.{are_plain_names, dashed, is_plain_name, is_stray, is_tree_letter, names_change_option, names_files_plainly};
+ghost use Rattle.lfs_grammar.specs.Hyphens.{names_joint_option, names_letter, names_tree_option};
 ghost use Rattle.lfs_grammar.specs.Hyphens.{names_image_option, names_limit_option, names_long_option, names_new_option, names_option, names_past_option, names_view_option};
 
 use clap::ArgMatches;
@@ -42,7 +43,21 @@ fn names_limit_option(word: &str) -> bool
 fn names_change_option(word: &str) -> bool
     ensures { result ≡ names_change_option word.now }
 {
-    names_past_option(word) || word.starts_with("--one")
+    names_past_option(word) || names_joint_option(word)
+}
+
+/// Whether a word is an option of several commands that are one change, by its long name.
+fn names_joint_option(word: &str) -> bool
+    ensures { result ≡ names_joint_option word.now }
+{
+    word.starts_with("--one") || names_tree_option(word)
+}
+
+/// Whether a word is an option of a change of a whole tree, by its long name.
+fn names_tree_option(word: &str) -> bool
+    ensures { result ≡ names_tree_option word.now }
+{
+    word.starts_with("--recursive") || word.starts_with("--parents")
 }
 
 /// Whether a word is an option of the changes of the past, by its long name.
@@ -74,7 +89,21 @@ fn names_view_option(word: &str) -> bool
 fn names_option(word: &str) -> bool
     ensures { result ≡ names_option word.now }
 {
-    word.starts_with("-b") || names_long_option(word) || word == "-h" || word == "--help"
+    names_letter(word) || names_long_option(word) || word == "-h" || word == "--help"
+}
+
+/// Whether a word is an option by its letter, behind which the block size may stand.
+fn names_letter(word: &str) -> bool
+    ensures { result ≡ names_letter word.now }
+{
+    word.starts_with("-b") || is_tree_letter(word)
+}
+
+/// Whether a word is an option of a change of a whole tree, by its letter.
+fn is_tree_letter(word: &str) -> bool
+    ensures { result ≡ is_tree_letter word.now }
+{
+    word == "-r" || word == "-p"
 }
 
 /// Whether a word begins with a hyphen, and is no option.

@@ -95,6 +95,8 @@ pub enum Statement {
     Row(Finding),
     /// The number of the line of a script that is refused, and what is wrong in it where it says no step; its text is kept beside.
     Line(usize, Option<Flaw>),
+    /// The command that is refused of those that a change of a tree is; its text is kept beside.
+    Command,
     /// How many blocks are needed for what is packed; no image of this block size holds it for `None`.
     Need(Option<u32>),
     /// How many changes are done, or undone, fewer than are asked for.

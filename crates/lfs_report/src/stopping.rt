@@ -11,6 +11,7 @@ use crate::stop::Stop;
 use crate::superblock::superblock_statement;
 use lfs_block::{Blocks, Image, MountFault};
 use lfs_book::Journal;
+use lfs_command::Refusal;
 use lfs_history::{Move, StepFault};
 use lfs_request::{Fault, KeptJournal, Outcome, Request, Task};
 use std::alloc::Global;
@@ -50,12 +51,9 @@ pub fn stop_of_run(
     let at = outcome.at;
     let statement = match fault {
         Fault::Step(fault) => changes_statement(alloc, &request.task, fault, outcome.journal),
-        Fault::Refused(refusal) => path_statement(note_of(
-            alloc,
-            &request.task,
-            refusal,
-            outcome.place,
-        )),
+        Fault::Refused(refusal) => {
+            refused_statement(alloc, &request.task, refusal, outcome, beside)
+        }
         Fault::Mount(fault) => statement_of_bytes(alloc, size, fault, outcome.image, beside),
         fault => statement_for(fault, Sight::of(size, &outcome.image), seen.other),
     };
@@ -64,6 +62,25 @@ pub fn stop_of_run(
         statement,
         count,
         at,
+    }
+}
+
+/// What is known of a refusal: which command of a plan it was, whose text is put into `beside`, or what is known of its path.
+fn refused_statement(
+    alloc: Global,
+    task: &Task<'_>,
+    refusal: Refusal,
+    outcome: Outcome,
+    beside: &mut Beside,
+) -> Option<Statement> {
+    let command = outcome.refused;
+    let place = outcome.place;
+    match command {
+        Some(command) => {
+            beside.text = command;
+            Some(Statement::Command)
+        }
+        None => path_statement(note_of(alloc, task, refusal, place)),
     }
 }
 

@@ -20,9 +20,9 @@ use crate::versions::{tell_changed, tell_expanded, tell_stated, tell_unread};
 use lfs_block::{ImageFault, MountFault};
 use lfs_command::{Command, Refusal};
 use lfs_exchange::tell_of_image;
-use lfs_history::Move;
+use lfs_history::{Move, Source};
 use lfs_host::Host;
-use lfs_request::{Fault, OtherFault, Query, Request, Task};
+use lfs_request::{Fault, OtherFault, Query, Request, Task, TreeChange};
 use lfs_texts::Flaw;
 
 /// Tells on standard error how a request ended, with what is kept beside that end, and answers its status. Takes no memory.
@@ -274,6 +274,25 @@ fn tell_line<H: Host>(
     }
 }
 
+/// Tells which command is refused of those that a change of a tree is.
+fn tell_command<H: Host>(host: &mut H, request: &Request<'_>, command: &[u8])
+    ensures kept { H.known host.new ≡ H.known host.old }
+{
+    if let Task::Tree { change, .. } = &request.task {
+        say(host, name_of(change), &[Piece::Bytes(command)]);
+    }
+}
+
+/// How a change of a tree is asked for.
+fn name_of(change: &TreeChange<'_, Source<'_>, &str>) -> &'static str {
+    match change {
+        TreeChange::Remove { .. } => "rm -r",
+        TreeChange::Make { .. } => "mkdir -p",
+        TreeChange::Put { .. } => "put -p",
+        TreeChange::Sync { .. } => "sync",
+    }
+}
+
 /// The name of what a task packs into a new image, where it packs something.
 fn packed_by<'a>(task: &Task<'a>) -> Option<&'a str> {
     match task {
@@ -335,6 +354,7 @@ fn tell_statement<H: Host>(
         Statement::Place => tell_place(host, image, beside),
         Statement::Row(finding) => tell_row(host, image, &beside.text, finding),
         Statement::Line(number, flaw) => tell_line(host, request, &beside.text, number, flaw),
+        Statement::Command => tell_command(host, request, &beside.text),
         Statement::Need(count) => tell_need(host, request, count),
         Statement::Changes(count) => tell_changes(host, request, count),
         Statement::OtherJournal => tell_other_journal(host, image),

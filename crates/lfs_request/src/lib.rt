@@ -13,6 +13,7 @@ mod request;
 mod said_limits;
 mod source_image;
 mod task;
+mod tree_change;
 mod view;
 
 pub use extent::Extent;
@@ -27,4 +28,5 @@ pub use request::Request;
 pub use said_limits::SaidLimits;
 pub use source_image::SourceImage;
 pub use task::Task;
+pub use tree_change::TreeChange;
 pub use view::View;

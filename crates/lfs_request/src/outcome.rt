@@ -21,6 +21,8 @@ pub struct Outcome {
     pub at: usize,
     /// Where on its path the step is refused, as far as that is known.
     pub place: Option<Place>,
+    /// The command that is refused, a verb and a path, where it is one of those that follow from the image.
+    pub refused: Option<Vec<u8>>,
     /// The status that the program ends with.
     pub status: u8,
 }
@@ -63,6 +65,7 @@ impl Outcome {
             fault,
             at,
             place,
+            refused: None,
             status,
         }
     }
@@ -79,7 +82,34 @@ impl Outcome {
             fault: None,
             at: 0,
             place: None,
+            refused: None,
             status: 0,
+        }
+    }
+    /// The same, with the command that is refused. Takes no memory.
+    pub fn with_refused(self, refused: Option<Vec<u8>>) -> Outcome
+        ensures kept { (result.image ≡ self.image) × (result.journal.items ≡ self.journal.items) }
+        ensures fault { result.fault ≡ self.fault }
+        ensures at { result.at ≡ self.at }
+        ensures status { result.status ≡ self.status }
+    {
+        let Outcome {
+            image,
+            journal,
+            fault,
+            at,
+            place,
+            status,
+            ..
+        } = self;
+        Outcome {
+            image,
+            journal,
+            fault,
+            at,
+            place,
+            refused,
+            status,
         }
     }
 }

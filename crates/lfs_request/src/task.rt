@@ -4,6 +4,7 @@ use crate::extent::Extent;
 use crate::query::Query;
 use crate::said_limits::SaidLimits;
 use crate::source_image::SourceImage;
+use crate::tree_change::TreeChange;
 use crate::view::View;
 use lfs_fs::Limits;
 use lfs_history::{Move, Source};
@@ -63,6 +64,13 @@ pub enum Task<'a> {
     Forget,
     /// A step on the image's history.
     Change(Move<'a, Source<'a>>),
+    /// A change of a whole tree, by several commands that are one change.
+    Tree {
+        /// The change; a folder of the host is there by its name.
+        change: TreeChange<'a, Source<'a>, &'a str>,
+        /// How many images of the past are kept behind it, 1 to 1,000; all of them for `None`.
+        keep: Option<u32>,
+    },
     /// The steps of a script, one after another: all of them or none.
     Batch {
         /// The name of the script's file; standard input where there is none.

@@ -8,3 +8,4 @@ pub mod BatchingLemmas
 pub mod OpenedLemmas
 pub mod RepackingLemmas
 pub mod RequestsLead
+pub mod TreeLemmas

@@ -21,7 +21,7 @@ use Rattle.lfs_request.specs.declared.manner.Manner.{Manner}
 use Rattle.lfs_request.specs.declared.query.Query.{Query}
 use Rattle.lfs_request.specs.declared.query.Query.TheVariants as query
 use Rattle.lfs_step.specs.declared.step.Step.{Step}
-use Rattle.lfs_step.specs.declared.step.Step.TheVariants.{Format, Pack, Ask, Forget, Change}
+use Rattle.lfs_step.specs.declared.step.Step.TheVariants.{Format, Pack, Ask, Forget, Change, Tree}
 use Rattle.lfs_step.specs.Histories.{StepsLeaveHistories}
 use Rattle.lfs_step.specs.Outcome.{AnswersDone, given}
 use Rattle.lfs_step.proofs.OutcomeLemmas.{AnswersBy}
@@ -229,6 +229,10 @@ done_leads laws Forget size name old new h b outcome good denotes handed answers
     forgets laws size name old new h b outcome denotes handed answers leaves
 done_leads laws (Change steps) size name old new h b outcome good denotes handed answers leaves =
     takes_all laws steps.now steps refl size name old new h b outcome denotes handed answers leaves
+done_leads laws (Tree change keep) size name old new h b outcome good denotes handed answers both =
+    let on = handed_change laws.short size name old h b denotes handed in
+    let (next, goes, left) = laws.leaves (Tree change keep) (given size b.image b.journal) outcome answers h on in
+    record { next = next; goes = goes; denotes = written size name old new outcome next both left }
 
 -- a step is a question
 abbrev IsAsking : Step → Type 0
@@ -321,11 +325,13 @@ good_step (task.Salvage dir view) size scene (Pack count stated rows) becomes = 
 good_step (task.Ask query view) size scene (Pack count stated rows) becomes = absurd becomes
 good_step task.Forget size scene (Pack count stated rows) becomes = absurd becomes
 good_step (task.Change move) size scene (Pack count stated rows) becomes = absurd becomes
+good_step (task.Tree change keep) size scene (Pack count stated rows) becomes = absurd becomes
 good_step (task.Batch file keep one) size scene (Pack count stated rows) becomes = absurd becomes
 good_step t size scene (Format count limits) becomes = tt
 good_step t size scene (Ask query) becomes = tt
 good_step t size scene Forget becomes = tt
 good_step t size scene (Change steps) becomes = tt
+good_step t size scene (Tree change keep) becomes = tt
 
 -- where a request leads, or that it is torn
 data Ends (size : ℕ) (name : List ℕ) (t : Task) (scene behind : Scene) (fault : Option Fault) (old new : Files) (h : History) : Type 0 where
@@ -369,6 +375,7 @@ asking query view size scene (Format count limits) becomes = absurd becomes
 asking query view size scene (Pack count limits rows) becomes = absurd becomes
 asking query view size scene Forget becomes = absurd becomes
 asking query view size scene (Change steps) becomes = absurd becomes
+asking query view size scene (Tree change keep) becomes = absurd becomes
 
 -- a task that becomes a step
 step_ends : Laws → (fault : Option Fault) (t : Task) (older : Bool) (size : ℕ) (name : List ℕ) (scene behind : Scene) (old new : Files) (h : History)
@@ -411,6 +418,9 @@ task_ends laws fault task.Forget older size name scene behind old new h before l
     denotes ends
 task_ends laws fault (task.Change move) older size name scene behind old new h before later denotes ends =
     step_ends laws fault (task.Change move) older size name scene behind old new h (λ next goes. goes) (λ s becomes. inl refl) before later
+    denotes ends
+task_ends laws fault (task.Tree change keep) older size name scene behind old new h before later denotes ends =
+    step_ends laws fault (task.Tree change keep) older size name scene behind old new h (λ next goes. goes) (λ s becomes. inl refl) before later
     denotes ends
 task_ends laws fault (task.Batch file keep one) older size name scene behind old new h before later denotes ends =
     step_ends laws fault (task.Batch file keep one) older size name scene behind old new h (λ next goes. goes) (λ s becomes. inl refl) before later

@@ -3,11 +3,12 @@ pub mod StepKind
 pub mod Later
 pub mod ReadBy
 pub mod Batching
+pub mod HostFolder
+pub mod Trees
 pub mod Program
 pub mod Lines
 pub mod Extracting
 pub mod Salvaging
-pub mod HostFolder
 pub mod Repacking
 pub mod Opened
 pub mod Requests

@@ -15,7 +15,7 @@ use Rattle.lfs_host.specs.Scene.{HasRefused, KeepsScene, Scene}
 use Rattle.lfs_pack.specs.declared.pack_row.PackRow.{PackRow}
 use Rattle.lfs_request.specs.declared.request.Request.{Request}
 use Rattle.lfs_request.specs.declared.task.Task.{Task}
-use Rattle.lfs_request.specs.declared.task.Task.TheVariants.{Format, Pack, Repack, Extract, Salvage, Ask, Forget, Change, Batch}
+use Rattle.lfs_request.specs.declared.task.Task.TheVariants.{Format, Pack, Repack, Extract, Salvage, Ask, Forget, Change, Tree, Batch}
 use Rattle.lfs_serve.specs.Extent.{IsExtent}
 use Rattle.lfs_step.specs.declared.step.Step.{Step}
 use Rattle.lfs_step.specs.declared.step.Step.TheVariants as step
@@ -34,6 +34,7 @@ use Rattle.lfs_serve.specs.Later.{later_read, refused_by}
 use Rattle.lfs_serve.specs.ReadBy.{IsAskedBy, IsReadBy, WantsMemory}
 use Rattle.lfs_serve.specs.Repacking.{PacksSource, RefusesSource}
 use Rattle.lfs_serve.specs.Salvaging.{EndsSalvage}
+use Rattle.lfs_serve.specs.Trees.{BecomesChange, IsNotReadFor, IsReadFirst, change_reads_input}
 
 -- ---- a step
 
@@ -90,6 +91,7 @@ BecomesStep (Ask query view) size s (step.Ask question) =
 BecomesStep Forget size s step.Forget = ⊤
 BecomesStep (Change move) size s (step.Change steps) =
     (read : List ℕ) × HandsInput move s.files s.typed read × (map step_of steps.now ≡ step_by (bytes_given read) move ∷ [])
+BecomesStep (Tree change keep) size s (step.Tree became kept) = BecomesChange change s became × (kept ≡ keep)
 BecomesStep (Batch file keep one) size s (step.Change steps) = BecomesBatch file keep one s (map step_of steps.now)
 BecomesStep _ size s _ = ⊥
 
@@ -113,11 +115,13 @@ HasKind (Salvage dir view) s kind = ⊥
 HasKind (Ask query view) s kind = kind ≡ kind_of_query query
 HasKind Forget s kind = kind ≡ Forgets
 HasKind (Change move) s kind = kind ≡ Changes
+HasKind (Tree change keep) s kind = (kind ≡ Changes) × IsReadFirst change s
 HasKind (Batch file keep one) s kind = (moves : List change.Move) × BecomesBatch file keep one s moves × (kind ≡ kind_of_steps moves)
 
 -- why what is read for a task isn't, but for the image's files: its folder, its script, or contents, or another image, also as it is read
 abbrev pub IsNotRead : Task → Scene → Scene → Fault → Type 0
 IsNotRead (Pack extent limits dir) old new why = ReadsNoFolder old.tree dir.now new why
+IsNotRead (Tree change keep) old new why = IsNotReadFor change old new why
 IsNotRead (Batch file keep one) old new why = BecomesNoBatch file one old new why
 IsNotRead (Change move) old new why = IsUnread new why
 IsNotRead (Repack source extent said) old new why = RefusesSource source old new why
@@ -144,6 +148,7 @@ EndsTask task older size name old new fault =
 -- whether a task reads standard input: a file that is put from there, or a script that comes there
 abbrev pub task_reads_input : Task → Bool
 task_reads_input (Change move) = reads_input move
+task_reads_input (Tree change keep) = change_reads_input change
 task_reads_input (Batch None keep one) = true
 task_reads_input _ = false
 

@@ -19,6 +19,7 @@ mod seeing;
 mod serving;
 mod sizing;
 mod stepping;
+mod tree_tasks;
 
 pub use laws::requests_lead_on;
 pub use serving::served;

@@ -11,6 +11,7 @@ use crate::packing::packed;
 use crate::plain_tasks::{changed, forgotten, formatted, queried};
 use crate::repacking::repacked;
 use crate::salvaging::salvaged;
+use crate::tree_tasks::tree_changed;
 use lfs_exchange::spare;
 use lfs_host::Host;
 use lfs_report::{Beside, Stop, tell_end, tell_later, tell_within};
@@ -83,6 +84,7 @@ fn done<H: Host>(
         Task::Ask { query, view } => queried(alloc, host, request, beside, query, *view),
         Task::Forget => forgotten(alloc, host, request, beside),
         Task::Change(step) => changed(alloc, host, request, beside, step),
+        Task::Tree { change, keep } => { tree_changed(alloc, host, request, beside, change, *keep) }
         Task::Batch { file, keep, one } => {
             batched(alloc, host, request, beside, *file, *keep, *one)
         }

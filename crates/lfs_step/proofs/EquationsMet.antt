@@ -9,7 +9,7 @@ use Rattle.lfs_change.specs.Change.{Denotes, IsChanged}
 use Rattle.lfs_change.specs.Laws.{ChangedBytesAreEquations, JournalsOfBytesGrowByTheNeed, JournalsOfBytesGrowOnTheKept}
 use Rattle.lfs_change.specs.TogetherLaws.{BytesAreChangedTogether, JournalsOfBytesGrowByTheNeeds}
 use Rattle.lfs_step.specs.declared.step.Step.{Step}
-use Rattle.lfs_step.specs.declared.step.Step.TheVariants.{Change}
+use Rattle.lfs_step.specs.declared.step.Step.TheVariants.{Change, Tree}
 use Rattle.lfs_step.specs.Equations.{KeepsEquations, KeepsNeeds, MeetsEquation, MeetsNeed, MovesMeetEquation, MovesMeetNeed}
 use Rattle.lfs_step.specs.Outcome.{Answers, AnswersDone, Given}
 use Rattle.lfs_step.proofs.OutcomeLemmas.{AnswersBy}
@@ -34,6 +34,11 @@ moves_meet_equation law together [] g outcome changes = tt
 meets_equation : ChangedBytesAreEquations → BytesAreChangedTogether → (step : Step) (g : Given) (outcome : Outcome) → AnswersDone step g outcome
     → MeetsEquation step g outcome
 meets_equation law together (Change steps) g outcome changes = moves_meet_equation law together (map step_of steps.now) g outcome changes
+meets_equation law together (Tree changing keep) g outcome (asked, is, changes) = (
+  asked,
+  is,
+  λ v tree holds mounts. together asked keep g.size g.image g.journal outcome v tree changes holds mounts,
+)
 meets_equation law together _ g outcome answers = tt
 
 pub keeps_equations : ChangedBytesAreEquations → BytesAreChangedTogether → (step : Step) (g : Given) (outcome : Outcome) → Answers step g outcome
@@ -60,6 +65,8 @@ moves_meet_need law kept together [] g outcome changes = tt
 meets_need : JournalsOfBytesGrowByTheNeed → JournalsOfBytesGrowOnTheKept → JournalsOfBytesGrowByTheNeeds → (step : Step) (g : Given) (outcome : Outcome)
     → AnswersDone step g outcome → MeetsNeed step g outcome
 meets_need law kept together (Change steps) g outcome changes = moves_meet_need law kept together (map step_of steps.now) g outcome changes
+meets_need law kept together (Tree changing keep) g outcome (asked, is, changes) =
+    (asked, is, moves_meet_need law kept together (Together asked keep ∷ []) g outcome changes)
 meets_need law kept together _ g outcome answers = tt
 
 pub keeps_needs : JournalsOfBytesGrowByTheNeed → JournalsOfBytesGrowOnTheKept → JournalsOfBytesGrowByTheNeeds → (step : Step) (g : Given) (outcome : Outcome)

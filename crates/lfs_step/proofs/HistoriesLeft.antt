@@ -1,11 +1,12 @@
 -- What a step leaves denotes the history to which it leads.
-use Rattle.std.proofs.Common.{◌≡◌, ℕ, List, [], Option, map, refl, sym, subst, arith}
+use Rattle.std.proofs.Common.{◌≡◌, ◌∷◌, ℕ, List, [], Option, map, refl, sym, subst, arith}
 use Rattle.lfs_block.specs.Disk.{Disk, IsDisk, image_of}
 use Rattle.lfs_book.specs.Book.{book_of, journal_bytes}
 use Rattle.lfs_edit.specs.Formatted.{disk_with}
 use Rattle.lfs_history.specs.Batch.{TakesAll}
 use Rattle.lfs_history.specs.History.{History, IsHistory, IsMounted, fresh_history}
 use Rattle.lfs_history.specs.Meaning.{step_of}
+use Rattle.lfs_history.specs.Taking.{Together}
 use Rattle.lfs_history.specs.OpeningLaws.{JournalsDenoteOneHistory, SavedHistoriesOpen}
 use Rattle.lfs_history.specs.Opening.{journal_of}
 use Rattle.lfs_request.specs.declared.fault.Fault.{Fault}
@@ -14,12 +15,13 @@ use Rattle.lfs_change.specs.Change.{Denotes, DenotesOn}
 use Rattle.lfs_change.specs.Forgetting.{IsForgotten}
 use Rattle.lfs_change.specs.Laws.{ChangedBytesAreDenoted}
 use Rattle.lfs_block.proofs.BytesLemmas.{image_of_disk}
-use Rattle.lfs_change.proofs.ChangeLemmas.{opened_denotes}
+use Rattle.lfs_change.proofs.ChangeLemmas.{denoted_present, opened_denotes}
 use Rattle.lfs_change.proofs.LawLemmas.{one_denoted, some_bytes}
 use Rattle.lfs_step.specs.declared.step.Step.{Step}
-use Rattle.lfs_step.specs.declared.step.Step.TheVariants.{Format, Pack, Ask, Forget, Change}
+use Rattle.lfs_step.specs.declared.step.Step.TheVariants.{Format, Pack, Ask, Forget, Change, Tree}
 use Rattle.lfs_step.specs.Histories.{KeepsHistories, StepsLeaveHistories}
 use Rattle.lfs_step.specs.Outcome.{Answers, Given, KeepsBoth}
+use Rattle.lfs_step.specs.TreeChanging.{IsAsked}
 use Rattle.lfs_step.proofs.OutcomeLemmas.{AnswersBy}
 
 -- ---- a new image
@@ -86,6 +88,19 @@ steps_leave_histories one opens denoted (Change steps) g outcome changes = λ ol
     let same = one_denoted one (image_of g.size g.image) g.journal changes.old old changes.denotes.1 denotes.1 in (
       changes.new,
       subst (λ (h : History). TakesAll moves h changes.new) same changes.takes,
+      denoted moves g.size g.image g.journal outcome changes,
+    )
+steps_leave_histories one opens denoted (Tree changing keep) g outcome (asked, is, changes) = λ old denotes.
+    let moves = Together asked keep ∷ [] in
+    let d = image_of g.size g.image in
+    let same = one_denoted one d g.journal changes.old old changes.denotes.1 denotes.1 in
+    let present : d ≡ old.present = sym (denoted_present d g.journal old denotes.1) in (
+      changes.new,
+      (
+        asked,
+        subst (λ (x : Disk). IsAsked changing x asked) present is,
+        subst (λ (h : History). TakesAll moves h changes.new) same changes.takes,
+      ),
       denoted moves g.size g.image g.journal outcome changes,
     )
 

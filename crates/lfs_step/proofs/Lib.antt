@@ -12,3 +12,4 @@ pub mod EquationsMet
 pub mod PackedListed
 pub mod ComparingLemmas
 pub mod RecountingLemmas
+pub mod TreeLemmas

@@ -7,7 +7,7 @@ use Rattle.lfs_block.specs.Disk.{image_of}
 use Rattle.lfs_change.specs.Change.{Denotes}
 use Rattle.lfs_change.proofs.ChangeLemmas.{denoted_present}
 use Rattle.lfs_step.specs.declared.step.Step.{Step}
-use Rattle.lfs_step.specs.declared.step.Step.TheVariants.{Format, Pack, Ask, Forget, Change}
+use Rattle.lfs_step.specs.declared.step.Step.TheVariants.{Format, Pack, Ask, Forget, Change, Tree}
 use Rattle.lfs_step.specs.Histories.{Leaves, StepsLeaveHistories}
 use Rattle.lfs_step.specs.Outcome.{Given, given}
 use Rattle.lfs_step.proofs.OutcomeLemmas.{AnswersBy}
@@ -44,6 +44,9 @@ one_goes leaves None Forget g outcome old good denotes answers = record {
 one_goes leaves None (Change steps) g outcome old good denotes answers =
     let (new, takes, to) = leaves (Change steps) g outcome answers old denotes in
     record { new = new; goes = takes; leaves = to }
+one_goes leaves None (Tree changing keep) g outcome old good denotes answers =
+    let (new, goes, to) = leaves (Tree changing keep) g outcome answers old denotes in
+    record { new = new; goes = goes; leaves = to }
 one_goes leaves (Some fault) step g outcome old good denotes answers = record {
   new = old;
   goes = (refl, answers.1);

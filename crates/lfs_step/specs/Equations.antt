@@ -16,7 +16,8 @@ use Rattle.lfs_block.specs.Disk.{image_of}
 use Rattle.lfs_change.specs.Laws.{GrowsByTheNeed, GrowsOnTheKept}
 use Rattle.lfs_change.specs.TogetherLaws.{GrowsByTheNeeds}
 use Rattle.lfs_step.specs.declared.step.Step.{Step}
-use Rattle.lfs_step.specs.declared.step.Step.TheVariants.{Change}
+use Rattle.lfs_step.specs.declared.step.Step.TheVariants.{Change, Tree}
+use Rattle.lfs_step.specs.TreeChanging.{IsAsked}
 use Rattle.lfs_step.specs.Outcome.{Given}
 
 -- an image that commands are done on as one change mounts to their equations of the tree before, one after another
@@ -37,6 +38,8 @@ MovesMeetEquation _ g outcome = Unit {0}
 -- so does one that a step is done on
 abbrev pub MeetsEquation : Step → Given → Outcome → Type 0
 MeetsEquation (Change steps) g outcome = MovesMeetEquation (map step_of steps.now) g outcome
+MeetsEquation (Tree changing keep) g outcome =
+    (asked : List Asked) × IsAsked changing (image_of g.size g.image) asked × MeetsEquations asked g outcome
 MeetsEquation _ g outcome = Unit {0}
 
 -- a step that isn't refused does
@@ -55,6 +58,8 @@ MovesMeetNeed _ g outcome = Unit {0}
 -- so it does by a step
 abbrev pub MeetsNeed : Step → Given → Outcome → Type 0
 MeetsNeed (Change steps) g outcome = MovesMeetNeed (map step_of steps.now) g outcome
+MeetsNeed (Tree changing keep) g outcome =
+    (asked : List Asked) × IsAsked changing (image_of g.size g.image) asked × MovesMeetNeed (Together asked keep ∷ []) g outcome
 MeetsNeed _ g outcome = Unit {0}
 
 -- the same of a step that isn't refused

@@ -8,8 +8,9 @@ use Rattle.lfs_block.specs.Disk.{image_of}
 use Rattle.lfs_change.specs.Change.{Denotes}
 use Rattle.lfs_pack.specs.Packed.{AreRowsOf, Packed}
 use Rattle.lfs_step.specs.declared.step.Step.{Step}
-use Rattle.lfs_step.specs.declared.step.Step.TheVariants.{Format, Pack, Ask, Forget, Change}
+use Rattle.lfs_step.specs.declared.step.Step.TheVariants.{Format, Pack, Ask, Forget, Change, Tree}
 use Rattle.lfs_step.specs.Outcome.{AnswersDone, Given}
+use Rattle.lfs_step.specs.TreeChanging.{ChangesTree}
 
 -- the image and the journal that are left denote this history
 abbrev pub Leaves : Given → Outcome → History → Type 0
@@ -26,6 +27,8 @@ LeavesHistory Forget g outcome = Leaves g outcome (fresh_history (image_of g.siz
 LeavesHistory (Change steps) g outcome =
     (old : History) → Denotes g.size g.image g.journal old
     → (new : History) × TakesAll (map step_of steps.now) old new × Leaves g outcome new
+LeavesHistory (Tree changing keep) g outcome =
+    (old : History) → Denotes g.size g.image g.journal old → (new : History) × ChangesTree changing keep old new × Leaves g outcome new
 
 -- the law: what a step that is done answers denotes such a history
 abbrev pub StepsLeaveHistories : Type 0

@@ -13,3 +13,4 @@ pub mod Histories
 pub mod Runs
 pub mod Equations
 pub mod PackedListed
+pub mod TreeChanging

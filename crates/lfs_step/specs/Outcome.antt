@@ -1,10 +1,11 @@
 -- The outcome of a run (own).
-use Rattle.std.specs.Prelude.{ℕ, ◌≡◌, List, [], Option, map, MatchOption}
+use Rattle.std.specs.Prelude.{ℕ, ◌≡◌, ◌∷◌, List, [], Option, map, MatchOption}
 use Rattle.std.specs.Io.KnownBytes.{Keeps}
 use Rattle.lfs_block.specs.Geometry.{IsGeometry}
 use Rattle.lfs_block.specs.declared.image_fault.ImageFault.TheVariants.{BadGeometry}
 use Rattle.lfs_fs.specs.declared.limits.Limits.{Limits}
 use Rattle.lfs_command.specs.declared.refusal.Refusal.TheVariants.{Memory}
+use Rattle.lfs_command.specs.Command.{Asked}
 use Rattle.lfs_command.specs.Faults.{refusal_number}
 use Rattle.lfs_book.specs.Book.{book_of, journal_bytes}
 use Rattle.lfs_edit.specs.Formatted.{IsFormatted}
@@ -15,12 +16,14 @@ use Rattle.lfs_block.specs.Disk.{image_of}
 use Rattle.lfs_change.specs.Change.{Denotes, IsChanged, RefusesChange}
 use Rattle.lfs_change.specs.Forgetting.{IsForgotten, RefusesForgetting}
 use Rattle.lfs_history.specs.Meaning.{step_of}
+use Rattle.lfs_history.specs.Taking.{Together}
 use Rattle.lfs_step.specs.Asking.{RefusesQuery, SendsAsked}
 use Rattle.lfs_pack.specs.declared.pack_row.PackRow.{PackRow}
 use Rattle.lfs_pack.specs.Packed.{AreRowsOf, Packed}
 use Rattle.lfs_pack.specs.Packing.{IsPacked, RefusesPack}
 use Rattle.lfs_step.specs.declared.step.Step.{Step}
-use Rattle.lfs_step.specs.declared.step.Step.TheVariants.{Format, Pack, Ask, Forget, Change}
+use Rattle.lfs_step.specs.declared.step.Step.TheVariants.{Format, Pack, Ask, Forget, Change, Tree}
+use Rattle.lfs_step.specs.TreeChanging.{IsAsked, RefusesTree}
 
 -- what a step is done on: the size of a block, the bytes of the image and of the journal
 pub record Given : Type 0 where
@@ -53,13 +56,14 @@ Refuses (Pack count limits rows) g at fault = RefusesPacking g.size count limits
 Refuses (Ask query) g at fault = RefusesQuery query g.size g.image g.journal fault
 Refuses Forget g at fault = RefusesForgetting g.size g.image fault
 Refuses (Change steps) g at fault = RefusesChange (map step_of steps.now) at g.size g.image g.journal fault
+Refuses (Tree changing keep) g at fault = RefusesTree changing keep at g.size g.image g.journal fault
 
 -- image and journal are those that the step was given
 abbrev pub KeepsBoth : Given → Outcome → Type 0
 KeepsBoth g outcome = (outcome.image.items ≡ g.image) × (outcome.journal.items ≡ g.journal)
 
 -- the image and the journal once a step is done: a new image and a journal without changes, those that were given, the image that was
--- given and a journal without changes, or those of the history that steps leave
+-- given and a journal without changes, or those of the history that steps leave, or the commands that a change of a tree is
 abbrev pub AnswersDone : Step → Given → Outcome → Type 0
 AnswersDone (Format count limits) g outcome =
     IsFormatted g.size count limits outcome.image.items × (outcome.journal.items ≡ journal_bytes (book_of g.size count [] 0))
@@ -69,6 +73,9 @@ AnswersDone (Pack count limits rows) g outcome =
 AnswersDone (Ask query) g outcome = KeepsBoth g outcome
 AnswersDone Forget g outcome = IsForgotten g.size g.image outcome
 AnswersDone (Change steps) g outcome = IsChanged (map step_of steps.now) (Denotes g.size g.image g.journal) outcome
+AnswersDone (Tree changing keep) g outcome =
+    (asked : List Asked) × IsAsked changing (image_of g.size g.image) asked
+    × IsChanged (Together asked keep ∷ []) (Denotes g.size g.image g.journal) outcome
 
 -- what is answered; with a fault, image and journal are those that were given
 abbrev pub Answers : Step → Given → Outcome → Type 0

@@ -12,7 +12,8 @@ use Rattle.lfs_change.specs.Change.{Denotes}
 use Rattle.lfs_pack.specs.Packed.{AreRowsOf, Packed}
 use Rattle.lfs_pack.specs.Packing.{IsPacked}
 use Rattle.lfs_step.specs.declared.step.Step.{Step}
-use Rattle.lfs_step.specs.declared.step.Step.TheVariants.{Format, Pack, Ask, Forget, Change}
+use Rattle.lfs_step.specs.declared.step.Step.TheVariants.{Format, Pack, Ask, Forget, Change, Tree}
+use Rattle.lfs_step.specs.TreeChanging.{ChangesTree}
 use Rattle.lfs_step.specs.Outcome.{Answers, Given, Refuses, given}
 
 -- the bytes of an image and of its journal
@@ -50,6 +51,7 @@ GoesOn size (Pack count limits rows) old new =
 GoesOn size (Ask query) old new = new ≡ old
 GoesOn size Forget old new = Forgets old new
 GoesOn size (Change steps) old new = TakesAll (map step_of steps.now) old new
+GoesOn size (Tree changing keep) old new = ChangesTree changing keep old new
 
 -- a step that is refused leaves the history, and the cause holds of what it was given
 abbrev pub GoesBy : Option Fault → ℕ → Step → Given → History → History → Type 0

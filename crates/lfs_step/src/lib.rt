@@ -15,6 +15,7 @@ mod sending;
 mod step;
 mod summary;
 mod telling;
+mod tree_changing;
 
 pub use contents::send_file;
 pub use laws::{packed_images_list_their_rows, runs_go_on, steps_leave_histories};

@@ -19,6 +19,7 @@ ghost use Rattle.lfs_step.specs.declared.step.Step.TheVariants.{Format, Pack};
 use crate::laws::steps_leave_histories;
 use crate::querying::queried;
 use crate::step::Step;
+use crate::tree_changing::tree_changed;
 use lfs_block::{ImageFault, geometry_ok};
 use lfs_book::write_journal;
 use lfs_change::{
@@ -103,6 +104,7 @@ fn taken<S: Sink>(
         Step::Ask(query) => queried(alloc, query, size, image, journal, out),
         Step::Forget => forgotten(alloc, size, image, journal),
         Step::Change(steps) => changed(alloc, steps, size, image, journal),
+        Step::Tree { change, keep } => tree_changed(alloc, &change, keep, size, image, journal),
     }
 }
 

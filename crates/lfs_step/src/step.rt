@@ -3,7 +3,8 @@
 use lfs_fs::Limits;
 use lfs_history::Move;
 use lfs_pack::PackRow;
-use lfs_request::Query;
+use lfs_request::{Query, TreeChange};
+use lfs_sync::SyncRow;
 
 /// What is done with an image and its journal, with all bytes in hand that it takes.
 ///
@@ -32,4 +33,11 @@ pub enum Step<'a> {
     Forget,
     /// Changes the image, or what is kept of its changes: steps on its history, one after another, all of them or none.
     Change(&'a [Move<'a>]),
+    /// Changes the image by commands that follow from it, as one change.
+    Tree {
+        /// The change.
+        change: TreeChange<'a, &'a [u8], &'a [SyncRow<'a>]>,
+        /// How many images of the past are kept behind it, 1 to 1,000; all of them for `None`.
+        keep: Option<u32>,
+    },
 }

@@ -1,6 +1,6 @@
 -- What the words of a command line ask for (own).
 use Rattle.std.specs.Prelude.{ℕ, ◌<◌, ◌^◌, Bool, true, false, ◌≡◌, ◌≢◌, ◌⊎◌, ◌||◌, ⊤, List, [], ◌∷◌, Option, None, Some, codes, if◌then◌else◌, is_some, map}
-use Rattle.std.specs.Prelude.{option_map}
+use Rattle.std.specs.Prelude.{option_map, ◌&&◌}
 use Rattle.std.specs.Borrow.{Bor}
 use Rattle.std.specs.List.{list_any}
 use Rattle.std.specs.Option.{option_map_or}
@@ -24,7 +24,9 @@ use Rattle.lfs_request.specs.declared.source_image.SourceImage.{SourceImage}
 use Rattle.lfs_request.specs.declared.view.View.{View}
 use Rattle.lfs_request.specs.declared.task.Task.{Task}
 use Rattle.lfs_request.specs.declared.task.Task.TheVariants as task
-use Rattle.lfs_request.specs.declared.task.Task.TheVariants.{Format, Pack, Repack, Extract, Salvage, Ask, Change, Batch}
+use Rattle.lfs_request.specs.declared.task.Task.TheVariants.{Format, Pack, Repack, Extract, Salvage, Ask, Change, Tree, Batch}
+use Rattle.lfs_request.specs.declared.tree_change.TreeChange.{TreeChange}
+use Rattle.lfs_request.specs.declared.tree_change.TreeChange.TheVariants as tree
 use Rattle.lfs_request.specs.declared.query.Query.{Query}
 use Rattle.lfs_request.specs.declared.query.Query.TheVariants.{Check, Ls, Blocks, Cat, Diff, Log}
 use Rattle.lfs_texts.specs.Digits.{SpellsByte, SpellsBytes, SpellsNoByte, SpellsNoBytes}
@@ -164,6 +166,24 @@ IsCommand (RmAttr path kind) name rows block =
 IsCommand (Grow count) name rows block = (name ≡ codes "grow") × SaysCount rows block count
 IsCommand _ name rows block = ⊥
 
+-- a command changes a whole tree: it says so, or always does
+abbrev pub is_of_tree : Text → List Row → Bool
+is_of_tree name rows =
+    bytes_eq name (codes "sync")
+    || (bytes_eq name (codes "rm") && is_flagged (codes "recursive") rows)
+    || ((bytes_eq name (codes "mkdir") || bytes_eq name (codes "put")) && is_flagged (codes "parents") rows)
+
+-- the path that an option's text is, or that of the root where none is said
+abbrev pub HasPathOrRoot : List Row → Text → Type 0
+HasPathOrRoot rows path = HasText rows (codes "path") path ⊎ (HasNone rows (codes "path") × (path ≡ codes "/"))
+
+-- the change of a whole tree that a name and its options say
+abbrev pub IsTreeChange : TreeChange Source (Bor (List ℕ)) → Text → List Row → Type 0
+IsTreeChange (tree.Remove path) name rows = (name ≡ codes "rm") × HasText rows (codes "path") path.now
+IsTreeChange (tree.Make path) name rows = (name ≡ codes "mkdir") × HasText rows (codes "path") path.now
+IsTreeChange (tree.Put path source) name rows = (name ≡ codes "put") × HasText rows (codes "path") path.now × HasContents rows source
+IsTreeChange (tree.Sync path dir) name rows = (name ≡ codes "sync") × HasPathOrRoot rows path.now × HasText rows (codes "dir") dir.now
+
 -- how many images of the past are kept behind a command: as many as are said, or all where no number is
 abbrev pub IsKept : Option ℕ → List Row → Type 0
 IsKept number rows = HasNumberIfSaid rows keep number
@@ -189,7 +209,9 @@ IsTask (Extract dir view) name rows block other = (name ≡ codes "extract") × 
 IsTask (Salvage dir view) name rows block other = (name ≡ codes "salvage") × HasText rows (codes "dir") dir.now × IsView view rows
 IsTask (Ask query view) name rows block other = IsQuery query name rows other × IsView view rows
 IsTask task.Forget name rows block other = name ≡ codes "forget"
-IsTask (Change (Do command kept)) name rows block other = IsCommand command name rows block × IsKept kept rows
+IsTask (Change (Do command kept)) name rows block other =
+    (is_of_tree name rows ≡ false) × IsCommand command name rows block × IsKept kept rows
+IsTask (Tree change kept) name rows block other = (is_of_tree name rows ≡ true) × IsTreeChange change name rows × IsKept kept rows
 IsTask (Change (Undo steps)) name rows block other = (name ≡ codes "undo") × HasNumber rows (codes "steps") steps
 IsTask (Change (Redo steps)) name rows block other = (name ≡ codes "redo") × HasNumber rows (codes "steps") steps
 IsTask (Change move.Forget) name rows block other = ⊥
@@ -241,7 +263,7 @@ is_command name =
 
 -- one of these, or one that takes no image
 abbrev pub is_other : Text → Bool
-is_other name = is_command name || bytes_eq (codes "find") name || bytes_eq (codes "explain") name
+is_other name = is_command name || bytes_eq (codes "sync") name || bytes_eq (codes "find") name || bytes_eq (codes "explain") name
 
 -- a command that asks something of an image
 abbrev pub is_question : Text → Bool

@@ -6,7 +6,7 @@ ghost use Rattle.lfs_grammar.specs.Grammar.{NamesCommand, TakesNoImage, is_chang
 ghost use Rattle.lfs_history.specs.Taking.{MayKeep};
 ghost use Rattle.lfs_request.specs.Task.{IsTaskInRange};
 ghost use Rattle.lfs_words.specs.Words.{HasContents, IsCommand, IsCommandMisuse, IsKept, IsManner, IsOffsetMisuse, IsQuery, IsSizeMisuse, IsTask, IsView, is_command};
-ghost use Rattle.lfs_words.specs.Words.{IsNoPast, IsNoTreeCommand, IsNoViewing, is_other, is_question};
+ghost use Rattle.lfs_words.specs.Words.{HasPathOrRoot, IsNoPast, IsNoTreeCommand, IsNoViewing, IsTreeChange, is_of_tree, is_other, is_question};
 ghost use Rattle.lfs_words.specs.declared.misuse.Misuse.TheVariants.{Memory, Unsaid};
 
 use crate::counting::{count_of, extent_if_said, extent_of, limits_if_said, limits_of};
@@ -17,7 +17,7 @@ use crate::viewing::view_of;
 use clap::ArgMatches;
 use lfs_command::Command;
 use lfs_history::{Move, Source};
-use lfs_request::{Manner, Query, SourceImage, Task, View};
+use lfs_request::{Manner, Query, SourceImage, Task, TreeChange, View};
 use std::alloc::Global;
 
 /// The question that a command's words say, where another image has blocks of this size.
@@ -133,6 +133,54 @@ fn is_change(name: &str) -> bool
         || name == "rmattr"
         || name == "grow"
         || name == "batch"
+        || name == "sync"
+}
+
+/// Whether the words are of a command that changes a whole tree.
+fn is_of_tree(name: &str, options: &ArgMatches<'_>) -> bool
+    ensures { result ≡ is_of_tree name.now (rows_of (found_of options.now)) }
+{
+    name == "sync"
+        || (name == "rm" && said(options, "recursive"))
+        || ((name == "mkdir" || name == "put") && said(options, "parents"))
+}
+
+/// The path that words say, or that of the root where they say none.
+fn path_or_root<'a>(options: &ArgMatches<'a>) -> &'a [u8]
+    ensures { HasPathOrRoot (rows_of (found_of options.now)) result.now }
+{
+    match options.get_str("path") {
+        Some(path) => path.as_bytes(),
+        None => b"/",
+    }
+}
+
+/// The change of a whole tree that words say.
+fn tree_change_of<'a>(
+    name: &str,
+    options: &ArgMatches<'a>,
+) -> Result<TreeChange<'a, Source<'a>, &'a str>, Misuse<'a>>
+    requires { is_of_tree name.now (rows_of (found_of options.now)) ≡ true }
+    ensures some { IfOk result (λ change. IsTreeChange change name.now (rows_of (found_of options.now))) }
+    ensures refused { IfErr result (λ misuse. misuse ≡ Unsaid) }
+    ensures unsaid { IfErr result (λ misuse. NamesCommand (Some (name.now, rows_of (found_of options.now))) → ⊥) }
+{
+    match name {
+        "rm" => Ok(TreeChange::Remove {
+            path: bytes(options, "path")?,
+        }),
+        "mkdir" => Ok(TreeChange::Make {
+            path: bytes(options, "path")?,
+        }),
+        "put" => Ok(TreeChange::Put {
+            path: bytes(options, "path")?,
+            bytes: contents_of(options),
+        }),
+        _ => Ok(TreeChange::Sync {
+            path: path_or_root(options),
+            rows: text(options, "dir")?,
+        }),
+    }
 }
 
 /// How many images of the past are kept behind a command; all of them for `None`.
@@ -281,6 +329,12 @@ pub(crate) fn task_of<'a>(
 {
     if !is_change(name) || name == "batch" {
         return other_task_of(name, options, block, other);
+    }
+    if is_of_tree(name, options) {
+        return Ok(Task::Tree {
+            change: tree_change_of(name, options)?,
+            keep: keep_of(options),
+        });
     }
     let command = command_of(alloc, name, options, block)?;
     Ok(Task::Change(Move::Do {

@@ -1,5 +1,5 @@
 -- The files of the image aren't taken up, or the steps are taken on them.
-use Rattle.std.proofs.Common.{◌≡◌, ◌∙◌, List, map, refl, subst, inl, inr}
+use Rattle.std.proofs.Common.{◌∙◌, map, refl, subst, inl, inr}
 use Rattle.std.proofs.lemmas.Result.{err_from_is_err_and}
 use Rattle.lfs_history.specs.Meaning.{step_of}
 use Rattle.lfs_host.specs.Scene.{Scene}

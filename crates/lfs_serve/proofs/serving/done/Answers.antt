@@ -35,3 +35,6 @@ returns-in-Ask-clause-rest g c = rw c.in-Ask.is c.queried.ensures.rest
 
 pub returns-in-Batch-clause-rest : goal.returns-in-Batch-clause-rest
 returns-in-Batch-clause-rest g c = rw c.in-Batch.is c.batched.ensures.rest
+
+pub returns-in-Tree : goal.returns-in-Tree
+returns-in-Tree g c = rw c.in-Tree.is c.tree_changed.ensures
