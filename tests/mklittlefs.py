@@ -1,0 +1,141 @@
+#!/usr/bin/env python3
+"""Calls share/lfsed/mklittlefs with the words of builds for PlatformIO and Arduino, and compares what it makes with what lfsed does; tries
+what it leaves out, ignores and refuses."""
+import os
+import pathlib
+import subprocess
+import sys
+import tempfile
+
+from support.counts import Counts
+from support.folder import HOME, PROGRAM
+
+SCRIPT = HOME / "share/lfsed/mklittlefs"
+SAID = "mklittlefs (lfsed): "
+NEEDED = "a device needs block_size {}, name_max {} or more, cache_size {} or more"
+# Words by which an image of the folder `data` is made, and what lfsed takes for them.
+CALLS = [
+    ("-c data -s 131072 -p 256 -b 4096 a.img", "--block 4096 --size 131072"),
+    ("-c data -p 256 -b 8192 -s 0x40000 a.img", "--block 8192 --size 0x40000"),
+    ("-c data a.img", "--block 4096 --size 65536"),
+    ("-d 5 a.img -b 512 -c data -s 64k", "--block 512 --size 64k"),
+]
+# Words that are refused, and what is said of them.
+REFUSED = [
+    ("", "one of -c, -u and -l has to be said"),
+    ("-c data", "IMAGE has to be said"),
+    ("-c data -l a.img", "just one of -c, -u and -l has to be said"),
+    ("-c data a.img b.img", "a second IMAGE: b.img"),
+    ("-c data a.img -s", "no value stands behind -s"),
+    ("-T list -c data a.img", "-T isn't taken"),
+    ("-c none a.img", "none: no folder is there"),
+]
+
+
+class Room:
+    """A folder in which the script is called."""
+
+    def __init__(self, counts, place):
+        self.counts, self.place = counts, place
+        (place / "data/www").mkdir(parents=True)
+        (place / "data/config").write_text("wifi=on\n")
+        (place / "data/www/two words").write_text("hello")
+
+    def run(self, program, words, **env):
+        """Runs a program; answers its status, what it prints and what it complains."""
+        command = [program, *(words.split(" ") if isinstance(words, str) else words)]
+        env = dict(os.environ, **env)
+        ended = subprocess.run([word for word in command if word], cwd=self.place, capture_output=True, text=True, check=False, env=env)
+        return ended.returncode, ended.stdout, ended.stderr
+
+    def makes(self, words, as_lfsed, name_max=32, **env):
+        """An image is made as lfsed makes it, without a journal; answers what is said."""
+        status, printed, said = self.run(SCRIPT, words, **env)
+        self.counts.check(words, (status, printed) == (0, ""), (status, printed, said))
+        packed = self.run(PROGRAM, f"pack --name-max {name_max} {as_lfsed} wanted.img data")
+        self.counts.check(f"{words}: lfsed", packed == (0, "", ""), packed)
+        same = (self.place / "a.img").read_bytes() == (self.place / "wanted.img").read_bytes()
+        self.counts.check(f"{words}: image", same and not (self.place / "a.img.lfsj").exists())
+        return said
+
+
+def creates(room):
+    """The words of builds, and what is said of them."""
+    for words, as_lfsed in CALLS:
+        said = room.makes(words, as_lfsed).splitlines()
+        block = int(as_lfsed.split(" ")[1])
+        ignored = [f"{SAID}ignored: {' '.join(pair)}" for pair in zip(words.split(), words.split()[1:]) if pair[0] in ("-p", "-d")]
+        room.counts.check(f"{words}: said", said == [*ignored, SAID + NEEDED.format(block, 32, min(block // 8, 1_022))], said)
+    said = room.makes("-c data a.img", "--size 65536", 64, LFSED_NAME_MAX="64")
+    room.counts.check("LFSED_NAME_MAX", "name_max 64" in said, said)
+
+
+def unpacks_and_lists(room):
+    """What an image holds, in a new folder and in one that is there; rows."""
+    room.run(SCRIPT, "-c data a.img")
+    (room.place / "there").mkdir()
+    (room.place / "there/kept").write_text("kept")
+    (room.place / "there/config").write_text("old")
+    for folder, more in ("new", set()), ("there", {"kept"}):
+        ended = room.run(SCRIPT, f"-u {folder} a.img")
+        found = {str(path.relative_to(room.place / folder)) for path in (room.place / folder).rglob("*")}
+        room.counts.check(f"-u {folder}", ended == (0, "", "") and found == {"config", "www", "www/two words"} | more, (ended, found))
+        room.counts.check(f"-u {folder}: contents", (room.place / folder / "config").read_text() == "wifi=on\n")
+    room.counts.check("-l", room.run(SCRIPT, "-l a.img") == room.run(PROGRAM, "ls a.img"))
+
+
+def leaves_out(room):
+    """Links are followed; what belongs to git or to a desktop is left out, but for -a."""
+    data = room.place / "data"
+    (data / ".git").mkdir()
+    (data / ".git/config").write_text("git")
+    (data / "www/.DS_Store").write_text("store")
+    (data / "link").symlink_to("www")
+    (room.place / "away").symlink_to("data")
+    all_else = {"/.git", "/.git/config", "/link/.DS_Store", "/www/.DS_Store"}
+    for words, more in ("-c data", set()), ("-c data -a", all_else), ("-c away", set()):
+        said = room.run(SCRIPT, f"{words} a.img")[2]
+        found = {line[13:] for line in room.run(PROGRAM, "ls a.img")[1].splitlines()}
+        plain = {"/", "/config", "/link", "/link/two words", "/www", "/www/two words"}
+        room.counts.check(words, found == plain | more, found ^ plain)
+        left = "" if more else f"{SAID}left out without -a: ./.git ./link/.DS_Store ./www/.DS_Store \n"
+        room.counts.check(f"{words}: said", said.startswith(left + SAID) if left else "left out" not in said, said)
+
+
+def refuses(room):
+    """Words that aren't taken, and what lfsed refuses: its fault is told, and its status is that of the script."""
+    for words, said in REFUSED:
+        ended = room.run(SCRIPT, words)
+        room.counts.check(words or "no words", ended[0] == 2 and ended[2].startswith(f"{SAID}{said}\nUsage: "), ended)
+    (room.place / "long").mkdir()
+    (room.place / "long" / ("n" * 33)).write_text("")
+    ended = room.run(SCRIPT, "-c long b.img")
+    room.counts.check("a long name", ended[0] == 1 and ended[2].startswith("lfsed: 36 NameTooLong\n"), ended)
+    room.counts.check("a long name: no image", not (room.place / "b.img").exists())
+    ended = room.run(SCRIPT, "-l none.img")
+    room.counts.check("no image", ended[0] == 4 and ended[2].startswith("lfsed: 60 CannotRead\n"), ended)
+
+
+def is_found_elsewhere(room):
+    """A link to the script finds lfsed beside the script itself; a copy of it, on the path."""
+    (room.place / "tool").symlink_to(SCRIPT)
+    (room.place / "copy").write_bytes(SCRIPT.read_bytes())
+    (room.place / "copy").chmod(0o755)
+    (room.place / "bin").mkdir()
+    (room.place / "bin/lfsed").symlink_to(PROGRAM)
+    room.counts.check("a link", room.run("./tool", "-c data a.img")[0] == 0)
+    path = f"{room.place / 'bin'}:{os.environ['PATH']}"
+    room.counts.check("a copy", room.run("./copy", "-c data a.img", PATH=path)[0] == 0)
+
+
+def main():
+    subprocess.run([HOME / "bin/lfsed", "--help"], stdout=subprocess.DEVNULL, check=True)
+    counts = Counts()
+    with tempfile.TemporaryDirectory() as name:
+        room = Room(counts, pathlib.Path(name))
+        for scene in creates, unpacks_and_lists, refuses, is_found_elsewhere, leaves_out:
+            scene(room)
+    return counts.end()
+
+
+sys.exit(main())
