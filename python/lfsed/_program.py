@@ -1,0 +1,47 @@
+"""Runs of the program."""
+from __future__ import annotations
+
+import os
+import pathlib
+import shutil
+import subprocess
+from typing import List, Optional, Tuple, Union
+
+from . import _faults, _texts
+
+# A file or a folder of the host.
+File = Union[str, "os.PathLike[str]"]
+# A path in an image.
+ImagePath = Union[str, bytes]
+Word = Union[str, bytes, int, "os.PathLike[str]"]
+
+
+def beside() -> Optional[str]:
+    """The program below the prefix that this module is installed in, where it is there."""
+    place = pathlib.Path(__file__).resolve().parent
+    found = place.parents[3] / "bin/lfsed" if place.parts[-4:] == ("share", "lfsed", "python", "lfsed") else None
+    return str(found) if found and found.is_file() else None
+
+
+def program() -> str:
+    """The name of the program."""
+    found = os.environ.get("LFSED") or beside() or shutil.which("lfsed")
+    if not found:
+        raise FileNotFoundError("the program lfsed isn't there: put it on the path, or set the variable LFSED to its name")
+    return found
+
+
+def bytes_of(word: Word) -> bytes:
+    """A word of the command line."""
+    if isinstance(word, bytes):
+        return word
+    return str(word).encode("utf-8", "surrogateescape") if isinstance(word, (str, int)) else os.fsencode(word)
+
+
+def run(command: str, options: List[Word], words: List[Word], given: bytes = b"", statuses: Tuple[int, ...] = (0,)) -> bytes:
+    """What a run prints; raises its fault where it doesn't end well."""
+    line = [os.fsencode(program()), command.encode(), *map(bytes_of, options), b"--", *map(bytes_of, words)]
+    ended = subprocess.run(line, input=memoryview(given), capture_output=True, check=False)
+    if ended.returncode and not (ended.returncode in statuses and not ended.stderr):
+        raise _faults.fault(ended.returncode, *_texts.fault(ended.stderr))
+    return ended.stdout
