@@ -16,7 +16,12 @@ INSTALLED = {
     "share/bash-completion/completions/lfsed": "completions/lfsed.bash",
     "share/zsh/site-functions/_lfsed": "completions/_lfsed",
     "share/fish/vendor_completions.d/lfsed.fish": "completions/lfsed.fish",
+    "share/lfsed/mklittlefs": "share/lfsed/mklittlefs",
+    "share/lfsed/python/pyproject.toml": "python/pyproject.toml",
+    **{f"share/doc/lfsed/{name}": name for name in ("README.md", "CONTRIBUTING.md", "CHANGELOG.md")},
 }
+# Folders that are installed with all that is in them.
+FOLDERS = {"share/cmake/lfsed": "share/cmake/lfsed", "share/lfsed/python/lfsed": "python/lfsed", "share/doc/lfsed/docs": "docs"}
 COMMANDS = "batch blocks cat check diff explain extract find forget format grow log ls mkdir mv pack put redo repack rm rmattr salvage setattr sync undo"
 # The words of a command line, of which the last one is completed, and what it may become.
 COMPLETED = [
@@ -98,6 +103,41 @@ def completed(folder, line):
     return sorted(subprocess.run(command, cwd=folder, stdout=subprocess.PIPE, check=True, text=True).stdout.split())
 
 
+def all_installed():
+    """What is installed: places below a prefix, each with the file of this repository that it is made of."""
+    found = dict(INSTALLED)
+    for place, folder in FOLDERS.items():
+        paths = [path for path in (HOME / folder).rglob("*") if path.is_file() and path.suffix != ".pyc"]
+        found.update({f"{place}/{path.relative_to(HOME / folder)}": path for path in paths})
+    return found
+
+
+def files_below(prefix):
+    """The files below a prefix, by their places."""
+    return {str(path.relative_to(prefix)) for path in prefix.rglob("*") if path.is_file()}
+
+
+def is_installed(counts, prefix):
+    """All is put below a prefix and taken away from there, but for what others put there."""
+    ended = subprocess.run([HOME / "bin/install", prefix], stdout=subprocess.PIPE, text=True)
+    counts.check("install", (ended.returncode, ended.stdout) == (0, "lfsed 0.1.0\n"), ended)
+    wanted = all_installed()
+    counts.check("what is installed", files_below(prefix) == {*wanted}, files_below(prefix) ^ {*wanted})
+    for name, source in wanted.items():
+        counts.check(name, (prefix / name).read_bytes() == (HOME / source).read_bytes())
+    ended = subprocess.run([prefix / "bin/lfsed", "--version"], stdout=subprocess.PIPE, text=True)
+    counts.check("installed", ended.stdout == "lfsed 0.1.0\n", ended)
+    (prefix / "share/man/man1/other.1").write_bytes(b"")
+    kept = prefix / "share/lfsed/python/lfsed/__pycache__"
+    kept.mkdir()
+    (kept / "lfsed.pyc").write_bytes(b"")
+    ended = subprocess.run([HOME / "bin/install", "--uninstall", prefix], capture_output=True)
+    counts.check("uninstall", (ended.returncode, ended.stdout, ended.stderr) == (0, b"", b""), ended)
+    counts.check("uninstalled", files_below(prefix) == {"share/man/man1/other.1"}, files_below(prefix))
+    left = [place for place in ("share/lfsed", "share/cmake/lfsed", "share/doc/lfsed") if (prefix / place).exists()]
+    counts.check("uninstalled: folders", not left, left)
+
+
 def main():
     counts = Counts()
     with tempfile.TemporaryDirectory() as room:
@@ -106,18 +146,7 @@ def main():
         for name in MADE:
             is_same = (folder / "made" / name).read_bytes() == (HOME / name).read_bytes()
             counts.check(name, is_same, "bin/manual makes another one")
-        ended = subprocess.run([HOME / "bin/install", folder / "prefix"], stdout=subprocess.PIPE, text=True)
-        counts.check("install", (ended.returncode, ended.stdout) == (0, "lfsed 0.1.0\n"), ended)
-        for name, source in INSTALLED.items():
-            counts.check(name, (folder / "prefix" / name).read_bytes() == (HOME / source).read_bytes())
-        ended = subprocess.run([folder / "prefix/bin/lfsed", "--version"], stdout=subprocess.PIPE, text=True)
-        counts.check("installed", ended.stdout == "lfsed 0.1.0\n", ended)
-        other = folder / "prefix/share/man/man1/other.1"
-        other.write_bytes(b"")
-        ended = subprocess.run([HOME / "bin/install", "--uninstall", folder / "prefix"], capture_output=True)
-        counts.check("uninstall", (ended.returncode, ended.stdout, ended.stderr) == (0, b"", b""), ended)
-        left = [path for path in (folder / "prefix").rglob("*") if path.is_file()]
-        counts.check("uninstalled", left == [other], left)
+        is_installed(counts, folder / "prefix")
         for words, status in ("--help", 0), ("-h", 0), ("--remove", 2):
             ended = subprocess.run([HOME / "bin/install", words], capture_output=True, text=True)
             counts.check(f"install {words}", ended.returncode == status and "Usage: bin/install" in ended.stdout + ended.stderr, ended)
