@@ -2,6 +2,7 @@
 """Runs the recipes of docs/RECIPES.md, each in a folder of its own with the files that it shows, and compares what they print."""
 import os
 import pathlib
+import re
 import shutil
 import subprocess
 import sys
@@ -9,23 +10,28 @@ import tempfile
 
 from support.transcript import HOME, blocks, run_block
 
-# Where a block of a language is written to, for the program of the same name.
-FILES = {"make": "Makefile", "cmake": "CMakeLists.txt"}
+# Where a block of a language is written to, and the program that reads it.
+FILES = {"make": "Makefile", "cmake": "CMakeLists.txt", "python": "build.py"}
+PROGRAMS = {"make": "make", "cmake": "cmake", "python": "python3"}
+# What recipes call that show no file for it.
+CALLED = ("git",)
 # What CMake writes build files for, and the program that reads them.
 GENERATORS = {"Unix Makefiles": "make", "Ninja": "ninja"}
 
 
 def can_run(recipe):
-    """Whether the programs that a recipe writes files for are there; says which one isn't."""
-    missing = [language for language, _ in blocks(recipe) if language in FILES and not shutil.which(language)]
+    """Whether the programs are there that a recipe writes files for or calls; says which one isn't."""
+    wanted = [PROGRAMS[language] for language, _ in blocks(recipe) if language in FILES]
+    wanted += [program for program in CALLED if re.search(rf"^\$ (?:.*[;|] )?{program} ", recipe, re.MULTILINE)]
+    missing = [program for program in wanted if not shutil.which(program)]
     for program in missing:
         print(f"{recipe.splitlines()[0]}: not run, since {program} isn't there")
     return not missing
 
 
 def environments(recipe):
-    """What a recipe is run in: one with `lfsed` on the path, and one for each generator where it writes a file for CMake."""
-    found = dict(os.environ, PATH=f"{HOME / 'bin'}:{os.environ['PATH']}")
+    """What a recipe is run in: one where `lfsed` and its module are found, and one for each generator where it writes a file for CMake."""
+    found = dict(os.environ, PATH=f"{HOME / 'bin'}:{os.environ['PATH']}", PYTHONPATH=str(HOME / "python"), PYTHONDONTWRITEBYTECODE="1")
     if not any(language == "cmake" for language, _ in blocks(recipe)):
         return [found]
     return [dict(found, CMAKE_GENERATOR=generator) for generator, program in GENERATORS.items() if shutil.which(program)]
