@@ -67,7 +67,7 @@ _lfsed() {
       ;;
     ls)
       options='-b --block --device --offset --older -h --help'
-      words='IMAGE'
+      words='IMAGE PATH'
       ;;
     blocks)
       options='-b --block --sum --device --offset --older -h --help'
@@ -78,7 +78,7 @@ _lfsed() {
       words='IMAGE PATH'
       ;;
     diff)
-      options='-b --block --device --offset --older -h --help'
+      options='-b --block --quiet --device --offset --older -h --help'
       words='IMAGE OTHER'
       ;;
     log)

@@ -119,6 +119,7 @@ complete -c lfsed -n '__fish_seen_subcommand_from check' -l offset -x -d 'Place 
 complete -c lfsed -n '__fish_seen_subcommand_from check' -l older -d 'Go on with the state before commits of a later disk version, which are not read'
 complete -c lfsed -n '__fish_seen_subcommand_from check' -s h -l help -d 'Print help'
 complete -c lfsed -n '__lfsed_at ls 0' -F
+complete -c lfsed -n '__lfsed_at ls 1' -a '(__lfsed_paths)'
 complete -c lfsed -n '__fish_seen_subcommand_from ls' -s b -l block -x -d 'Size of a block, a multiple of 16 from 256 to 65536, or auto [default: 4096]'
 complete -c lfsed -n '__fish_seen_subcommand_from ls' -l device -d 'Read the image as a device does: also disk version 2.1, and a superblock that was expanded'
 complete -c lfsed -n '__fish_seen_subcommand_from ls' -l offset -x -d 'Place in the file at which the image begins: 1114112, 0x110000, 1088k or 1M'
@@ -141,6 +142,7 @@ complete -c lfsed -n '__fish_seen_subcommand_from cat' -s h -l help -d 'Print he
 complete -c lfsed -n '__lfsed_at diff 0' -F
 complete -c lfsed -n '__lfsed_at diff 1' -F
 complete -c lfsed -n '__fish_seen_subcommand_from diff' -s b -l block -x -d 'Size of a block, a multiple of 16 from 256 to 65536, or auto [default: 4096]'
+complete -c lfsed -n '__fish_seen_subcommand_from diff' -l quiet -d 'Print nothing; the status says whether the images differ'
 complete -c lfsed -n '__fish_seen_subcommand_from diff' -l device -d 'Read the image as a device does: also disk version 2.1, and a superblock that was expanded'
 complete -c lfsed -n '__fish_seen_subcommand_from diff' -l offset -x -d 'Place in the file at which the image begins: 1114112, 0x110000, 1088k or 1M'
 complete -c lfsed -n '__fish_seen_subcommand_from diff' -l older -d 'Go on with the state before commits of a later disk version, which are not read'

@@ -16,7 +16,7 @@ from support.logs import (
     HARD, NO_ENTRY, SOFT, SUPERBLOCK, Draft, attribute, chained, directory, file, image, log, moved, tail,
 )
 from support.scattering import laid
-from support.texts import difference_of, listed, said
+from support.texts import compared, ended_by, listed, said
 
 SIZE, COUNT, LONGER = 512, 8, 16
 
@@ -404,20 +404,20 @@ def is_read(folder, name, row, reader, device):
     """Compares what each command makes of the image with its tree."""
     found, words = reader.tree(), f"-b {row.size}{device}"
     folder.check(f"{name}: read apart", found == row.wanted, found)
-    other, there = plain(row.size)
+    other = Reader(plain(row.size)[0], row.size)
     folder.be(row.image, 0)
-    beside(folder, "b.img").write_bytes(other)
+    beside(folder, "b.img").write_bytes(other.image)
     printed = {
         f"check {words} a.img": said(reader),
         f"ls {words} a.img": listed(found),
-        f"diff {words} a.img b.img": difference_of(found, there).encode(),
-        f"diff {words} b.img a.img": difference_of(there, found).encode(),
+        f"diff {words} a.img b.img": compared(reader, other).encode(),
+        f"diff {words} b.img a.img": compared(other, reader).encode(),
         **{f"cat {words} a.img {path.decode()}": held for path, (held, _) in found.items() if held is not None},
         f"extract {words} a.img made": b"", f"salvage {words} a.img saved": b"",
     }
     for line, wanted in printed.items():
-        ended = folder.run(line)
-        folder.check(f"{name}: {line}", ended == (0, "", wanted), ended)
+        ended, status = folder.run(line), int(line.startswith("diff ") and wanted != b"")
+        folder.check(f"{name}: {line}", ended == (status, "", wanted), ended)
     for what in "made", "saved":
         made = extracted(beside(folder, what)) if beside(folder, what).exists() else {}
         folder.check(f"{name}: {what}", made == {path: held for path, (held, _) in found.items()}, made)
@@ -506,7 +506,7 @@ def both_images_are_compared(folder):
         folder.be(old.image, 0)
         beside(folder, "b.img").write_bytes(new.image)
         ended = folder.run("diff -b 512 --device a.img b.img")
-        folder.check("compared", ended == (0, "", difference_of(old.wanted, new.wanted).encode()), ended)
+        folder.check("compared", ended == ended_by(compared(DeviceReader(old.image, SIZE), DeviceReader(new.image, SIZE))), ended)
         folder.be(eight({0: PLAIN}), 0)
         fault, second = UNREAD[new.without]
         ended = folder.run("diff -b 512 a.img b.img")

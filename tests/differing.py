@@ -8,7 +8,7 @@ from support.folder import run_scenes
 from support.journal import journal
 from support.littlefs import Reader
 from support.logs import chained, directory, file, image, log, superblock, tail, SOFT
-from support.texts import difference_of
+from support.texts import difference_of, ended_by
 
 NO_FORMAT, NO_MATCH, NO_IMAGE = "lfsed: 50 JournalFormat\n", "lfsed: 51 JournalMismatch\n", "lfsed: 52 JournalImage\n"
 NO_UNDO, NO_REDO = "lfsed: 53 NothingToUndo\n", "lfsed: 54 NothingToRedo\n"
@@ -49,7 +49,10 @@ def differs(folder, what, size, old, new):
     other(folder).write_bytes(new)
     wanted = difference_of(Reader(old, size).tree(), Reader(new, size).tree())
     ended = folder.run(f"diff -b {size} a.img b.img")
-    folder.check(what, ended == (0, "", wanted.encode()), (ended, wanted))
+    folder.check(what, ended == ended_by(wanted), (ended, wanted))
+    status, told, _ = ended_by(wanted)
+    ended = folder.run(f"diff --quiet -b {size} a.img b.img")
+    folder.check(f"{what}, quietly", ended == (status, told, b""), (ended, wanted))
     folder.check(f"{what}: files", (folder.old(), other(folder).read_bytes(), folder.saved()) == (old, new, None))
 
 
@@ -70,7 +73,7 @@ def worked_differences(folder):
         folder.check(words, folder.run(" ".join([name, b, "a.img", *rest]), length)[0] == 0)
     there = other(folder).read_bytes(), folder.old()
     ended = folder.run(f"diff {b} b.img a.img")
-    folder.check("in the order of paths", ended == (0, "", IN_ORDER.encode()), ended)
+    folder.check("in the order of paths", ended == ended_by(IN_ORDER), ended)
     ended = folder.run(f"diff {b} a.img a.img")
     folder.check("an image and itself", ended == (0, "", b""), ended)
     folder.check("both images stay", (other(folder).read_bytes(), folder.old()) == there)
@@ -136,7 +139,7 @@ def block_sizes(folder):
         folder.be(old, 0)
         other(folder).write_bytes(new)
         ended = folder.run("diff -b auto a.img b.img")
-        folder.check(f"block sizes: {printed}", ended == (0, "", printed.encode()), ended)
+        folder.check(f"block sizes: {printed}", ended == ended_by(printed), ended)
     other(folder).write_bytes(large[:-1])
     ended = folder.run("diff -b auto a.img b.img")
     told = "lfsed: 1 ImageLength\nlfsed: b.img: its first block states 16 blocks of 1024 bytes\n"
@@ -145,6 +148,25 @@ def block_sizes(folder):
     ended = folder.run("diff -b auto a.img b.img")
     told = "lfsed: 1 ImageLength\nlfsed: b.img: 4097 bytes are no multiple of 4096\n"
     folder.check("block sizes: none is stated", ended == (3, told, b""), ended)
+
+
+def limits(folder):
+    """Limits that differ stand in front of what else does, those of the second image."""
+    for words, row in (
+        ("--name-max 12", "~ limits 12 2147483647 1022\n"), ("--file-max 900", "~ limits 255 900 1022\n"),
+        ("--attr-max 30", "~ limits 255 2147483647 30\n"), ("--name-max 255 --attr-max 1022", ""),
+    ):
+        for line in f"format -b 512 --count 8 {words} b.img", "format -b 512 --count 8 a.img":
+            folder.check(line, folder.run(line)[0] == 0)
+        ended = folder.run("diff -b 512 a.img b.img")
+        folder.check(f"limits: {words}", ended == ended_by(row), ended)
+        folder.run("mkdir -b 512 b.img /d")
+        ended = folder.run("diff -b 512 a.img b.img")
+        folder.check(f"limits: {words}, and a directory", ended == ended_by(f"{row}+ d          - /d\n"), ended)
+        ended = folder.run("diff -b 512 --quiet b.img a.img")
+        folder.check(f"limits: {words}, quietly", ended == (1, "", b""), ended)
+    for left in "b.img", "b.img.lfsj":
+        folder.image.with_name(left).unlink()
 
 
 def told(folder):
@@ -250,6 +272,6 @@ def random_histories(folder):
         differs(folder, f"pair {n}", 256, old, new)
 
 
-SCENES = [worked_differences, held_elsewhere, refused, block_sizes, told, not_taken, random_histories]
+SCENES = [worked_differences, held_elsewhere, refused, block_sizes, limits, told, not_taken, random_histories]
 
 sys.exit(run_scenes(SCENES))

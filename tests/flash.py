@@ -18,7 +18,7 @@ from support.later import FIRST, LATER, DeviceReader, LaterScattered, appended, 
 from support.littlefs import Reader
 from support.logs import chained, created, file, image, log, superblock
 from support.scattering import Scattered, laid
-from support.texts import difference_of, listed, said
+from support.texts import compared, difference_of, ended_by, listed, said
 
 FLASH = "flash.bin"
 MIB = 1 << 20
@@ -98,11 +98,12 @@ def is_read(folder, what, flash, reader, options="", told="", **how):
     """What each command says and makes of the image is also what a reader apart from the program finds in it."""
     ends = are_alike(folder, what, flash, reader.size, options, **how)
     found, place = reader.tree(), beside(folder, "made")
-    printed = {"check": said(reader), "ls": listed(found), "diff": difference_of(found, plain(reader.size)[1]).encode(),
+    printed = {"check": said(reader), "ls": listed(found), "diff": compared(reader, Reader(plain(reader.size)[0], reader.size)).encode(),
                "extract": b"", "repack": b""}
     printed.update({"cat": found[b"/early"][0]} if b"/early" in found else {})
     for name, wanted in printed.items():
-        folder.check(f"{what}{options}: {name}", ends[name][:3] == (0, told, wanted), ends[name][:3])
+        status = int(name == "diff" and wanted != b"")
+        folder.check(f"{what}{options}: {name}", ends[name][:3] == (status, told, wanted), ends[name][:3])
     made = {f"/{path.relative_to(place)}".replace("/.", "/").encode(): held for path, held in ends["extract"][3].items()}
     folder.check(f"{what}{options}: extracted", made == {path: held for path, (held, _) in found.items()}, made)
     new = ends["repack"][3].get(beside(folder, "c.img"))
@@ -315,8 +316,8 @@ def images_are_compared(folder):
     beside(folder, FLASH).write_bytes(noise(100) + old + noise(50))
     both = Reader(old, SIZE).tree(), Reader(new, SIZE).tree()
     for line, wanted in (
-        (f"diff -b 512 --offset 100 {FLASH} a.img", (0, "", difference_of(*both).encode())),
-        (f"diff -b auto --device --offset 100 {FLASH} a.img", (0, "", difference_of(*both).encode())),
+        (f"diff -b 512 --offset 100 {FLASH} a.img", ended_by(difference_of(*both))),
+        (f"diff -b auto --device --offset 100 {FLASH} a.img", ended_by(difference_of(*both))),
         ("diff -b 512 --offset 0 a.img a.img", (0, "", b"")),
         ("diff -b 512 --offset 4096 a.img a.img", (3, "lfsed: 2 BadGeometry\n", b"")),
         (f"diff -b 512 --offset 100 {FLASH} {FLASH}", (3, f"lfsed: 1 ImageLength\nlfsed: {FLASH}: ", b"")),

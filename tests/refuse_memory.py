@@ -225,6 +225,7 @@ def comparing_rows(runs):
         other.write_bytes(held)
         runs.row(["diff", "a.img", "b.img"], (filled[0], None))
         runs.row(["diff", "a.img", "b.img"], (made[0], None))
+        runs.row(["diff", "--quiet", "a.img", "b.img"], (made[0], None))
     runs.size = "auto"
     other.write_bytes(image(256, 16, {0: log(1, superblock(256, 16))}))
     runs.row(["check", "a.img"], filled)

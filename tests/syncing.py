@@ -20,7 +20,7 @@ from support.logs import SOFT, attribute, chained, directory, file, image, log, 
 from support.refusing import Refusing
 from support.scattering import Scattered, laid
 from support.scripts import script, spelled
-from support.texts import difference_of, in_order, said
+from support.texts import difference_of, ended_by, in_order, said
 
 NOT_FOUND, EXISTS, NO_DIRECTORY, IS_DIRECTORY = "30 NotFound", "31 Exists", "32 NotADirectory", "33 IsADirectory"
 BAD_PATH, LONG_NAME, LARGE_FILE, IS_ROOT = "35 BadPath", "36 NameTooLong", "37 FileTooLarge", "41 IsRoot"
@@ -222,8 +222,7 @@ class Trees:
         bare = {joined(b"/", rest): (held, {}) for rest, held in {b"": None, **rows}.items()}
         wanted = difference_of(bare, self.tree())
         status, told, printed = self.run(["diff", "b.img", "a.img"])
-        is_right = (told, printed.decode()) == ("", wanted) and status in ((0, 1) if wanted else (0,))
-        self.folder.check(f"{what}: beside pack", is_right, (status, told, printed))
+        self.folder.check(f"{what}: beside pack", (status, told, printed) == ended_by(wanted), (status, told, printed))
 
     def refuses(self, what, words, first, second="", status=1, given=b""):
         """Runs words that are refused: how what is told begins, and image and journal as they were."""

@@ -29,11 +29,11 @@ program is the one that the variable LFSED names, or else the one beside this mo
 """
 from ._faults import Fault, HostFault, ImageFault, Misuse, Refusal
 from ._image import Batch, Image, format, pack, repack
-from ._records import Change, Difference, Row, Summary
+from ._records import Change, Difference, Limits, Row, Summary
 
 __version__ = "0.1.0"
 __all__ = [
-    "Batch", "Change", "Difference", "Fault", "HostFault", "Image", "ImageFault", "Misuse", "Refusal", "Row", "Summary", "format",
+    "Batch", "Change", "Difference", "Fault", "HostFault", "Image", "ImageFault", "Limits", "Misuse", "Refusal", "Row", "Summary", "format",
     "pack", "repack",
 ]
 

@@ -165,7 +165,7 @@ class Image:
         >>> image = format("l.img", block=512, count=16)
         >>> image.mkdir("/a")
         >>> image.log()
-        [Change(number=1, is_done=True, differences=[Difference(mark='+', row=Row(path='/a', size=None, attributes={}))])]
+        [Change(number=1, is_done=True, differences=[Difference(mark='+', row=Row(path='/a', size=None, attributes={}), limits=None)])]
         """
         return _texts.changes(self._past("log"))
 

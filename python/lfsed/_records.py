@@ -31,11 +31,22 @@ class Row:
 
 
 @dataclass(frozen=True)
+class Limits:
+    """The greatest lengths of a name, a file and an attribute, in bytes."""
+
+    name: int
+    file: int
+    attribute: int
+
+
+@dataclass(frozen=True)
 class Difference:
-    """A row that went ("-"), that came ("+"), or that is a file of other contents ("~"), as it is now."""
+    """A row that went ("-"), that came ("+"), or that is a file of other contents ("~"), as it is now. Where an image's limits are
+    others, they stand with the root."""
 
     mark: str
     row: Row
+    limits: Optional[Limits] = None
 
 
 @dataclass(frozen=True)

@@ -4,11 +4,12 @@ from __future__ import annotations
 import re
 from typing import Dict, Iterator, List, Optional, Tuple
 
-from ._records import Change, Difference, Row, Summary
+from ._records import Change, Difference, Limits, Row, Summary
 
 SUMMARY = re.compile(r"block (\d+), count (\d+), free (\d+), directories (\d+), files (\d+)\n")
 ROW = re.compile(r"(?:d          -|f (?P<size>[ \d]{9}\d)) (?P<path>/[\x20-\x7e]*)")
 ATTRIBUTE = re.compile(r"@ ([0-9a-f]{2}) ((?:[0-9a-f]{2})*)")
+LIMITS = re.compile(r"~ limits (\d+) (\d+) (\d+)")
 CHANGE = re.compile(r"change (\d+), (done|undone)")
 FAULT = re.compile(r"(\d+) (\w+)(?: (need \d+ free \d+))?")
 ODD = re.compile(rb"\\x([0-9a-f]{2})")
@@ -66,7 +67,10 @@ def rows(printed: bytes) -> List[Row]:
 
 
 def difference(lines: List[str]) -> Difference:
-    """The difference of a row's lines, each behind one mark."""
+    """The difference of a row's lines, each behind one mark, or of the line of limits."""
+    found = LIMITS.fullmatch(lines[0])
+    if found and len(lines) == 1:
+        return Difference("~", Row("/", None), Limits(*map(int, found.groups())))
     mark = lines[0][:1]
     if mark not in ("+", "-", "~") or any(line[:2] != f"{mark} " for line in lines):
         raise ValueError(f"lfsed printed what this module doesn't read: {lines!r}; both have to be of one version")

@@ -120,6 +120,11 @@ class Reader:
         """What a pair holds."""
         return Part(pair, self.read(self.block(self.live(pair)[0])))
 
+    def limits(self):
+        """The greatest lengths of a name, a file and an attribute that the superblock states."""
+        words = self.parts[0].entries[0].value
+        return tuple(int.from_bytes(words[at:at + 4], "little") for at in (12, 16, 20))
+
     def thread(self):
         """The pairs of the thread."""
         return [part.pair for part in self.parts]

@@ -58,3 +58,14 @@ def difference_of(old, new):
             text += marked("-", path, old[path]) if path in old else ""
             text += marked("+", path, new[path]) if path in new else ""
     return text
+
+
+def compared(old, new):
+    """What differs between two images that were read, their limits in front."""
+    limits = "~ limits {} {} {}\n".format(*new.limits()) if old.limits() != new.limits() else ""
+    return limits + difference_of(old.tree(), new.tree())
+
+
+def ended_by(text):
+    """How `diff` ends that says this: with 1 where it says that anything differs."""
+    return int(text != ""), "", text.encode()

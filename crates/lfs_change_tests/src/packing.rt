@@ -45,7 +45,7 @@ pub(crate) fn rows(attributes: &[(u8, Vec<u8>)]) -> [PackRow<'_>; 3] {
 fn lists(alloc: Global, mounted: &Mounted, listing: &str) -> bool {
     let mut text = Vec::new(alloc);
     let mut out = Out::new(&mut text);
-    let is_sent = send_listing(alloc, mounted.rows(), &mut out).is_ok();
+    let is_sent = send_listing(alloc, mounted.rows(), &[], &mut out).is_ok();
     is_sent && text.as_slice() == listing.as_bytes()
 }
 

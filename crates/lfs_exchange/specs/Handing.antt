@@ -76,10 +76,11 @@ LeavesInput step old new = reads_input step ≡ false → new.typed ≡ old.type
 -- a query with its other image in hand: the bytes of the file of that name
 abbrev pub HandsQuestion : Option Files → Query (Bor (List ℕ)) → Question → Type 0
 HandsQuestion files Check Check = ⊤
-HandsQuestion files Ls Ls = ⊤
+HandsQuestion files (Ls path) (Ls same_path) = same_path ≡ path
 HandsQuestion files (Blocks sums) (Blocks same) = same ≡ sums
 HandsQuestion files (Cat path) (Cat text) = text ≡ path
-HandsQuestion files (Diff name size) (Diff other other_size) = ReadsFile files name.now most_image other.items × (other_size ≡ size)
+HandsQuestion files (Diff name size quiet) (Diff other other_size is_quiet) =
+    ReadsFile files name.now most_image other.items × (other_size ≡ size) × (is_quiet ≡ quiet)
 HandsQuestion files Log Log = ⊤
 HandsQuestion files _ _ = ⊥
 

@@ -236,12 +236,13 @@ pub fn question_of<'a, H: Host>(
 {
     match *query {
         Query::Check => Ok(Query::Check),
-        Query::Ls => Ok(Query::Ls),
+        Query::Ls { path } => Ok(Query::Ls { path }),
         Query::Blocks { sums } => Ok(Query::Blocks { sums }),
         Query::Cat { path } => Ok(Query::Cat { path }),
-        Query::Diff { other, size } => Ok(Query::Diff {
+        Query::Diff { other, size, quiet } => Ok(Query::Diff {
             other: read_other(alloc, host, 0, other)?,
             size,
+            quiet,
         }),
         Query::Log => Ok(Query::Log),
     }

@@ -31,8 +31,11 @@ pub fn kind_of_query<O>(query: &Query<'_, O>) -> StepKind
 {
     match query {
         Query::Log => StepKind::Recounts,
-        Query::Check | Query::Ls | Query::Blocks { .. } | Query::Cat { .. } | Query::Diff { .. } =>
-            StepKind::Asks,
+        Query::Check
+        | Query::Ls { .. }
+        | Query::Blocks { .. }
+        | Query::Cat { .. }
+        | Query::Diff { .. } => StepKind::Asks,
     }
 }
 

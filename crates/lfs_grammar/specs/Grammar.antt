@@ -107,6 +107,10 @@ sum = flag (codes "sum")
 abbrev pub one : Rule
 one = flag (codes "one")
 
+-- only the status says whether two images differ
+abbrev pub quiet : Rule
+quiet = flag (codes "quiet")
+
 -- an option without a value that has a letter too
 abbrev pub flag_or : Text → ℕ → Rule
 flag_or id letter = record (flag id) { short = Some letter }
@@ -120,8 +124,8 @@ abbrev pub parents : Rule
 parents = flag_or (codes "parents") 112
 
 -- a path in the image, which needn't be said
-abbrev pub synced_path : Rule
-synced_path = record (new_rule (codes "path")) { value_names = 1 }
+abbrev pub path_or_root : Rule
+path_or_root = record (new_rule (codes "path")) { value_names = 1 }
 
 -- images are read as a device does
 abbrev pub device : Rule
@@ -166,6 +170,7 @@ rule_at argument.AttrMaxOrSource = attr_max_or_source
 rule_at argument.New = is_new
 rule_at argument.Sum = sum
 rule_at argument.One = one
+rule_at argument.Quiet = quiet
 rule_at argument.Recursive = recursive
 rule_at argument.Parents = parents
 rule_at argument.Device = device
@@ -182,7 +187,8 @@ rule_at argument.Flash = word (codes "flash")
 rule_at argument.Dir = word (codes "dir")
 rule_at argument.NewDir = word (codes "dir")
 rule_at argument.Path = word (codes "path")
-rule_at argument.SyncedPath = synced_path
+rule_at argument.SyncedPath = path_or_root
+rule_at argument.ListedPath = path_or_root
 rule_at argument.SyncedDir = word (codes "dir")
 rule_at argument.Contents = contents
 rule_at argument.Script = script
@@ -282,10 +288,10 @@ commands =
     ∷ asking (codes "extract") (word (codes "dir") ∷ [])
     ∷ asking (codes "salvage") (word (codes "dir") ∷ [])
     ∷ asking (codes "check") []
-    ∷ asking (codes "ls") []
+    ∷ asking (codes "ls") (path_or_root ∷ [])
     ∷ asking (codes "blocks") (sum ∷ [])
     ∷ asking (codes "cat") (word (codes "path") ∷ [])
-    ∷ asking (codes "diff") (word (codes "other") ∷ [])
+    ∷ asking (codes "diff") (word (codes "other") ∷ quiet ∷ [])
     ∷ reading (codes "log") []
     ∷ changing (codes "mkdir") (word (codes "path") ∷ parents ∷ [])
     ∷ changing (codes "put") (word (codes "path") ∷ contents ∷ parents ∷ [])
@@ -294,7 +300,7 @@ commands =
     ∷ changing (codes "setattr") (word (codes "path") ∷ word (codes "kind") ∷ word (codes "hex") ∷ [])
     ∷ changing (codes "rmattr") (word (codes "path") ∷ word (codes "kind") ∷ [])
     ∷ changing (codes "grow") (new_count ∷ size ∷ [])
-    ∷ changing (codes "sync") (word (codes "dir") ∷ synced_path ∷ [])
+    ∷ changing (codes "sync") (word (codes "dir") ∷ path_or_root ∷ [])
     ∷ reading (codes "undo") (steps ∷ [])
     ∷ reading (codes "redo") (steps ∷ [])
     ∷ reading (codes "forget") []

@@ -40,11 +40,21 @@ names_change_option word = names_past_option word || names_joint_option word
 abbrev pub names_view_option : Text → Bool
 names_view_option word = begins_with word (codes "--device") || begins_with word (codes "--offset")
 
+-- an option that says how an answer is told, by its long name
+abbrev pub names_answer_option : Text → Bool
+names_answer_option word = begins_with word (codes "--sum") || begins_with word (codes "--quiet")
+
+-- an option of a question, by its long name
+abbrev pub names_asking_option : Text → Bool
+names_asking_option word = names_view_option word || names_answer_option word
+
+-- an option that says which file is read, and which state of it, by its long name
+abbrev pub names_file_option : Text → Bool
+names_file_option word = begins_with word (codes "--block") || begins_with word (codes "--older") || begins_with word (codes "--from")
+
 -- an option of an image or a file that is there, by its long name
 abbrev pub names_image_option : Text → Bool
-names_image_option word =
-    begins_with word (codes "--block") || names_view_option word || begins_with word (codes "--older")
-    || begins_with word (codes "--from") || begins_with word (codes "--sum")
+names_image_option word = names_file_option word || names_asking_option word
 
 -- an option by its long name
 abbrev pub names_long_option : Text → Bool

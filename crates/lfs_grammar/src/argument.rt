@@ -43,6 +43,8 @@ pub(crate) enum Argument {
     Sum,
     /// That the steps of a script are one change.
     One,
+    /// That only the status says whether two images differ.
+    Quiet,
     /// That all goes that is below a directory too.
     Recursive,
     /// That parents are made that lack.
@@ -77,6 +79,8 @@ pub(crate) enum Argument {
     Path,
     /// The same, of a directory that becomes what a folder holds; the root where it isn't said.
     SyncedPath,
+    /// The same, of what is listed.
+    ListedPath,
     /// The name of a folder that an image is made like.
     SyncedDir,
     /// The name of the file that contents are read from.
@@ -243,6 +247,13 @@ static ONE: ArgumentRow = ArgumentRow {
     help: "Make one change of all steps, which one undo takes back; undo, redo and forget are none of them",
 };
 
+/// That only the status says whether two images differ.
+static QUIET: ArgumentRow = ArgumentRow {
+    id: "quiet",
+    form: Form::Flag,
+    help: "Print nothing; the status says whether the images differ",
+};
+
 /// That all goes that is below a directory too.
 static RECURSIVE: ArgumentRow = ArgumentRow {
     id: "recursive",
@@ -362,6 +373,13 @@ static SYNCED_PATH: ArgumentRow = ArgumentRow {
     help: "Path in the image that is made like the folder, from / on; all of it where none is said",
 };
 
+/// What is listed.
+static LISTED_PATH: ArgumentRow = ArgumentRow {
+    id: "path",
+    form: Form::SpareWord("PATH"),
+    help: "Path in the image that is listed, from / on, with all below it; all of the image where none is said",
+};
+
 /// The name of a folder that an image is made like.
 static SYNCED_DIR: ArgumentRow = ArgumentRow {
     id: "dir",
@@ -439,6 +457,7 @@ fn row_of(argument: Argument) -> &'static ArgumentRow
         Argument::New => &NEW,
         Argument::Sum => &SUM,
         Argument::One => &ONE,
+        Argument::Quiet => &QUIET,
         Argument::Recursive => &RECURSIVE,
         Argument::Parents => &PARENTS,
         Argument::Device => &DEVICE,
@@ -456,6 +475,7 @@ fn row_of(argument: Argument) -> &'static ArgumentRow
         Argument::NewDir => &NEW_DIR,
         Argument::Path => &PATH,
         Argument::SyncedPath => &SYNCED_PATH,
+        Argument::ListedPath => &LISTED_PATH,
         Argument::SyncedDir => &SYNCED_DIR,
         Argument::Contents => &CONTENTS,
         Argument::Script => &SCRIPT,

@@ -13,8 +13,10 @@ use std::alloc::{AllocError, Global};
 const VERSION: &str = "0.1.0";
 
 /// What the statuses mean.
-const STATUSES: &str = "Status: 0 done; 1 the change is refused; 2 the command line is refused;
-3 the image or its journal is refused; 4 out of memory, or a file is not read or written.";
+const STATUSES: &str =
+    "Status: 0 done; 1 the change is refused, or images differ; 2 the command line
+is refused; 3 the image or its journal is refused; 4 out of memory, or a file
+is not read or written.";
 
 /// A command of the program.
 struct CommandRow {
@@ -152,6 +154,7 @@ static COMMANDS: [CommandRow; 25] = [
         arguments: &[
             Argument::Block,
             Argument::Image,
+            Argument::ListedPath,
             Argument::Device,
             Argument::Offset,
             Argument::Older,
@@ -191,6 +194,7 @@ static COMMANDS: [CommandRow; 25] = [
             Argument::Block,
             Argument::Image,
             Argument::Other,
+            Argument::Quiet,
             Argument::Device,
             Argument::Offset,
             Argument::Older,

@@ -3,7 +3,7 @@
 ghost use Rattle.std.specs.Prelude.{◌≡◌, IfOk, map};
 ghost use Rattle.clap.specs.Words.{first_of, found_of, rows_of, subcommand_rows_of};
 ghost use Rattle.lfs_grammar.specs.Hyphens.{are_plain_names, dashed, is_plain_name, is_stray, is_tree_letter, names_change_option, names_files_plainly};
-ghost use Rattle.lfs_grammar.specs.Hyphens.{names_joint_option, names_letter, names_tree_option};
+ghost use Rattle.lfs_grammar.specs.Hyphens.{names_answer_option, names_asking_option, names_file_option, names_joint_option, names_letter, names_tree_option};
 ghost use Rattle.lfs_grammar.specs.Hyphens.{names_image_option, names_limit_option, names_long_option, names_new_option, names_option, names_past_option, names_view_option};
 
 use clap::ArgMatches;
@@ -71,11 +71,21 @@ fn names_past_option(word: &str) -> bool
 fn names_image_option(word: &str) -> bool
     ensures { result ≡ names_image_option word.now }
 {
-    word.starts_with("--block")
-        || names_view_option(word)
-        || word.starts_with("--older")
-        || word.starts_with("--from")
-        || word.starts_with("--sum")
+    names_file_option(word) || names_asking_option(word)
+}
+
+/// Whether a word is an option that says which file is read, and which state of it, by its long name.
+fn names_file_option(word: &str) -> bool
+    ensures { result ≡ names_file_option word.now }
+{
+    word.starts_with("--block") || word.starts_with("--older") || word.starts_with("--from")
+}
+
+/// Whether a word is an option of a question, by its long name.
+fn names_asking_option(word: &str) -> bool
+    ensures { result ≡ names_asking_option word.now }
+{
+    names_view_option(word) || names_answer_option(word)
 }
 
 /// Whether a word is an option that says how an image is looked at, by its long name.
@@ -83,6 +93,13 @@ fn names_view_option(word: &str) -> bool
     ensures { result ≡ names_view_option word.now }
 {
     word.starts_with("--device") || word.starts_with("--offset")
+}
+
+/// Whether a word is an option that says how an answer is told, by its long name.
+fn names_answer_option(word: &str) -> bool
+    ensures { result ≡ names_answer_option word.now }
+{
+    word.starts_with("--sum") || word.starts_with("--quiet")
 }
 
 /// Whether a word is an option, or asks for help.

@@ -1,4 +1,5 @@
 pub mod AttributeLemmas
+pub mod BelowLemmas
 pub mod BlockMapLemmas
 pub mod BodyLemmas
 pub mod BufferLemmas

@@ -9,27 +9,27 @@ use Rattle.lfs_listing.specs.Unsent.{SendsListing}
 use Rattle.lfs_listing.proofs.BufferLemmas.{IsUnderWay, all_goes, beginning_goes, nothing_goes}
 
 -- an error that is passed on
-pub same_error : (r : Result (Unit {0}) Unsent) (error e : Unsent) → IsErrAnd r (λ u. u ≡ error) → error ≡ e → IsErrAnd r (λ u. u ≡ e)
+pub same_error : {A : Type 0} (r : Result A Unsent) (error e : Unsent) → IsErrAnd r (λ u. u ≡ error) → error ≡ e → IsErrAnd r (λ u. u ≡ e)
 same_error (Ok done) error e is same = absurd is
 same_error (Err u) error e is same = is ∙ same
 
 -- memory is refused
-pub refused : (r : Result (Unit {0}) Unsent) (old new : Option (List ℕ)) (waits rest whole : List ℕ) → IsErrAnd r (λ e. e ≡ Memory)
+pub refused : {A : Type 0} (r : Result A Unsent) (old new : Option (List ℕ)) (waits rest whole : List ℕ) → IsErrAnd r (λ e. e ≡ Memory)
     → IsUnderWay old new waits rest whole → SendsListing (result_err r) old new whole
 refused (Ok done) old new waits rest whole is h = absurd is
 refused (Err e) old new waits rest whole is h =
     subst (λ (u : Unsent). SendsListing (Some u) old new whole) (sym is) (nothing_goes old new waits rest whole h)
 
 -- the sink fails
-pub failed : (r : Result (Unit {0}) Unsent) (old mid new : Option (List ℕ)) (waits rest whole : List ℕ) → IsErrAnd r (λ e. e ≡ CannotWrite)
+pub failed : {A : Type 0} (r : Result A Unsent) (old mid new : Option (List ℕ)) (waits rest whole : List ℕ) → IsErrAnd r (λ e. e ≡ CannotWrite)
     → IsUnderWay old mid waits rest whole → SendsBeginning mid new waits → SendsListing (result_err r) old new whole
 failed (Ok done) old mid new waits rest whole is h sent = absurd is
 failed (Err e) old mid new waits rest whole is h sent =
     subst (λ (u : Unsent). SendsListing (Some u) old new whole) (sym is) (beginning_goes old mid new waits rest whole h sent)
 
 -- the rest is sent, or the sink fails
-pub ends : (r : Result (Unit {0}) Unsent) (old mid new : Option (List ℕ)) (waits whole : List ℕ) → IsUnderWay old mid waits [] whole
+pub ends : {A : Type 0} (r : Result A Unsent) (old mid new : Option (List ℕ)) (waits whole : List ℕ) → IsUnderWay old mid waits [] whole
     → MatchResult r (λ done. Appends mid new waits) (λ e. (e ≡ CannotWrite) × SendsBeginning mid new waits)
     → SendsListing (result_err r) old new whole
-ends (Ok done) old mid new waits whole h sent = all_goes old mid new waits whole h sent
-ends (Err e) old mid new waits whole h (is, sent) = failed (Err e) old mid new waits [] whole is h sent
+ends {A} (Ok done) old mid new waits whole h sent = all_goes old mid new waits whole h sent
+ends {A} (Err e) old mid new waits whole h (is, sent) = failed {A = A} (Err e) old mid new waits [] whole is h sent

@@ -60,6 +60,11 @@ changed d a e b =
     if shows_same d a.entry e b.entry then []
     else (if are_alike a.entry b.entry then marked_line (codes "~ ") b else removed a ++ added b)
 
+-- whether a text has any byte
+abbrev pub is_some_text : List ℕ → Bool
+is_some_text [] = false
+is_some_text (byte ∷ bytes) = true
+
 -- ---- rows
 
 -- what differs from a row of the first on, where `rest` says what differs behind it: in the order of paths

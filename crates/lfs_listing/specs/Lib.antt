@@ -1,4 +1,5 @@
 pub mod Ahead
+pub mod Below
 pub mod BlockMap
 pub mod BlockSums
 pub mod BlockUses

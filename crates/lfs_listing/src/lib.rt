@@ -3,6 +3,7 @@
 
 mod ahead;
 mod attributes;
+mod below;
 mod block_map;
 mod block_numbers;
 mod block_sums;
@@ -33,9 +34,10 @@ mod unread;
 mod unsent;
 mod using;
 
+pub use below::is_below;
 pub use block_map::send_block_map;
 pub use block_sums::send_block_sums;
-pub use differing::{MountedImage, send_difference};
+pub use differing::{MountedImage, have_difference, send_difference};
 pub use escaping::append_all_shown;
 pub use laws::{differences_show_trees, users_are_uses};
 pub use order::order_of;

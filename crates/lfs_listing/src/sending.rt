@@ -3,7 +3,7 @@
 ghost use Rattle.std.specs.Prelude.{◌≡◌, false};
 ghost use Rattle.std.specs.Result.{result_err};
 ghost use Rattle.lfs_fs.specs.Listed.{rows_listed};
-ghost use Rattle.lfs_listing.specs.Listing.{listing};
+ghost use Rattle.lfs_listing.specs.Below.{listing_at, names};
 ghost use Rattle.lfs_listing.specs.Unsent.{SendsListing, blames_sink};
 
 use crate::buffer::{send_if_full, send_rest};
@@ -13,7 +13,7 @@ use lfs_fs::Rows;
 use lfs_sink::Sink;
 use std::alloc::Global;
 
-/// Sends the listing of rows: for each a line with `d` for a directory or `f` for a file, its size in bytes at the right of
+/// Sends the listing of the rows that are at a path or below: for each a line with `d` for a directory or `f` for a file, its size in bytes at the right of
 /// ten places, or `-` for a directory, and its path, in which `\x` and two digits stand for each byte that isn't printable
 /// ASCII or is a backslash; then for each of its attributes a line with `@`, the kind and the value in hexadecimal digits.
 /// The caller owes that the sink has not failed before. `CannotWrite` where the sink fails, and a beginning went out, not
@@ -21,16 +21,21 @@ use std::alloc::Global;
 /// the lines of one row wait at a time.
 ///
 /// Source: own.
-pub fn send_listing<S: Sink>(alloc: Global, rows: Rows<'_>, out: &mut S) -> Result<(), Unsent>
+pub fn send_listing<S: Sink>(
+    alloc: Global,
+    rows: Rows<'_>,
+    at: &[&[u8]],
+    out: &mut S,
+) -> Result<(), Unsent>
     requires { S.failed out.old ≡ false }
-    ensures sent { SendsListing (result_err result) (S.sent out.old) (S.sent out.new) (listing (rows_listed rows.entry)) }
+    ensures sent { SendsListing (result_err result) (S.sent out.old) (S.sent out.new) (listing_at (names at.now) (rows_listed rows.entry)) }
     ensures failed { S.failed out.new ≡ blames_sink (result_err result) }
     ensures kept { S.kept out.new ≡ S.kept out.old }
 {
     let mut text = Vec::new(alloc);
     let mut path = Vec::new(alloc);
     for row in rows {
-        append_row(&mut text, &mut path, &row)?;
+        append_row(&mut text, &mut path, at, &row)?;
         send_if_full(&mut text, out)?;
     }
     send_rest(&mut text, out)

@@ -43,6 +43,7 @@ pub fn tell_end<H: Host>(
             tell_lines(host, request.image, &beside.lines);
             0
         }
+        Err(stop) if stop.fault == Fault::Differ => stop.fault.status(),
         Err(stop) => tell_of(host, request, stop, beside),
     }
 }

@@ -11,7 +11,7 @@ use Rattle.lfs_history.specs.declared.step_fault.StepFault.{StepFault}
 use Rattle.lfs_history.specs.declared.step_fault.StepFault.TheVariants.{Refused as Refused_step, RefusedAt}
 use Rattle.lfs_history.specs.Faults.{step_fault_number}
 use Rattle.lfs_request.specs.declared.fault.Fault.{Fault}
-use Rattle.lfs_request.specs.declared.fault.Fault.TheVariants.{Image, Mount, Refused, Step, JournalFormat, JournalMismatch, JournalImage, CannotRead, CannotWrite, HostEntry, HostName, BadHex, BadLine, Other}
+use Rattle.lfs_request.specs.declared.fault.Fault.TheVariants.{Image, Mount, Refused, Step, JournalFormat, JournalMismatch, JournalImage, CannotRead, CannotWrite, HostEntry, HostName, BadHex, BadLine, Other, Differ}
 use Rattle.lfs_request.specs.declared.other_fault.OtherFault.{OtherFault}
 use Rattle.lfs_request.specs.declared.other_fault.OtherFault.TheVariants as other
 
@@ -37,15 +37,16 @@ fault_number HostName = 63
 fault_number BadHex = 64
 fault_number BadLine = 65
 fault_number (Other fault) = other_fault_number fault
+fault_number Differ = 0
 
 -- a number lies in a range, both ends included
 abbrev pub is_within : ℕ → ℕ → ℕ → Bool
 is_within first last number = nat_le first number && nat_le number last
 
--- 1: a refused command; 2: usage; 3: a refused image or journal; 4: memory, or what the host refused
+-- 1: a refused command, or images that differ; 2: usage; 3: a refused image or journal; 4: memory, or what the host refused
 abbrev pub status_of_number : ℕ → ℕ
 status_of_number number =
-    if is_within 30 43 number || number == 46 || is_within 53 55 number then 1
+    if number == 0 || is_within 30 43 number || number == 46 || is_within 53 55 number then 1
     else (if is_within 64 65 number then 2
     else (if is_within 1 21 number || is_within 50 52 number then 3
     else 4))

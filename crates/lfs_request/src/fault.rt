@@ -41,6 +41,8 @@ pub enum Fault {
     BadLine,
     /// The image that another is compared with is refused.
     Other(OtherFault),
+    /// Two images that are compared differ, of which nothing is told but what differs.
+    Differ,
 }
 
 impl Fault {
@@ -66,16 +68,17 @@ impl Fault {
             Fault::BadHex => 64,
             Fault::BadLine => 65,
             Fault::Other(fault) => fault.number(),
+            Fault::Differ => 0,
         }
     }
 
-    /// The status that the program ends with: 1 where a command was refused, 2 for the command line, 3 where an image
+    /// The status that the program ends with: 1 where a command was refused, or two images differ, 2 for the command line, 3 where an image
     /// or a journal was refused, 4 for want of memory and for what the host refused.
     pub fn status(self) -> u8
         ensures { result ≡ status_of_number (fault_number self) }
     {
         match self.number() {
-            30..=43 | 46 | 53..=55 => 1,
+            0 | 30..=43 | 46 | 53..=55 => 1,
             64 | 65 => 2,
             1..=21 | 50..=52 => 3,
             _ => 4,
@@ -99,6 +102,7 @@ impl Fault {
             Fault::BadHex => "BadHex",
             Fault::BadLine => "BadLine",
             Fault::Other(fault) => fault.name(),
+            Fault::Differ => "Differ",
         }
     }
 }

@@ -7,8 +7,11 @@
 pub enum Query<'a, O> {
     /// Whether it mounts, and what it holds in numbers.
     Check,
-    /// What stands at each path.
-    Ls,
+    /// What stands at a path, and at each one below it.
+    Ls {
+        /// The text of the path.
+        path: &'a [u8],
+    },
     /// Which block holds what.
     Blocks {
         /// In place of that, how many blocks each path takes.
@@ -25,6 +28,8 @@ pub enum Query<'a, O> {
         other: O,
         /// The size of its blocks, in bytes.
         size: u32,
+        /// In place of that, only whether there is any.
+        quiet: bool,
     },
     /// What the changes in the journal changed.
     Log,

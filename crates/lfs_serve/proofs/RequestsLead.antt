@@ -160,10 +160,10 @@ asks query size name old new h denotes same = record {
 asked : (query : Question) (size : ℕ) (name : List ℕ) (old new : Files) (h : History) (outcome : Outcome) → FilesDenote size name old h
     → LeavesFiles (kind_of_query query) (Some old) (Some new) name outcome → StepLeads size name (Ask query) new h
 asked query.Check size name old new h outcome denotes same = asks query.Check size name old new h denotes same
-asked query.Ls size name old new h outcome denotes same = asks query.Ls size name old new h denotes same
+asked (query.Ls path) size name old new h outcome denotes same = asks (query.Ls path) size name old new h denotes same
 asked (query.Blocks sums) size name old new h outcome denotes same = asks (query.Blocks sums) size name old new h denotes same
 asked (query.Cat path) size name old new h outcome denotes same = asks (query.Cat path) size name old new h denotes same
-asked (query.Diff other other_size) size name old new h outcome denotes same = asks (query.Diff other other_size) size name old new h denotes same
+asked (query.Diff other other_size quiet) size name old new h outcome denotes same = asks (query.Diff other other_size quiet) size name old new h denotes same
 asked query.Log size name old new h outcome denotes same = asks query.Log size name old new h denotes same
 
 -- all but the image is forgotten
@@ -298,11 +298,11 @@ IsTornBy behind status name old new = WasRefused behind.has_refused_place × (st
 stop_leaves : (s : Step) (manner : Manner) (size : ℕ) (name : List ℕ) (scene behind : Scene) (fault : Fault) (old new : Files) (h : History)
     → scene.files ≡ Some old → behind.files ≡ Some new → FilesDenote size name old h → StopsStep s manner size name scene behind fault
     → FilesDenote size name new h ⊎ IsTornBy behind (status_of (Some fault)) name old new
-stop_leaves s manner size name scene behind fault old new h before later denotes (inl (outcome, runs, same)) =
+stop_leaves s manner size name scene behind fault old new h before later denotes (inl (outcome, runs, same, handed)) =
     inl (same_files size name old new h (sym later ∙ same ∙ before) denotes)
 stop_leaves s manner size name scene behind fault old new h before later denotes (inr (inl (refused, keeps))) =
     inl (same_files size name old new h (sym later ∙ keeps.0 ∙ before) denotes)
-stop_leaves s manner size name scene behind fault old new h before later denotes (inr (inr (unwritten, (outcome, runs, spares)))) =
+stop_leaves s manner size name scene behind fault old new h before later denotes (inr (inr (unwritten, (answered, whole, outcome, runs, spares)))) =
     let placed = behind.has_refused_place in
     let left : SparesFiles fault (kind_of s) placed (Some old) (Some new) name outcome =
     subst (λ (f : Option Files). SparesFiles fault (kind_of s) placed (Some old) f name outcome) later

@@ -1,8 +1,8 @@
 -- How steps end, by what was handed, run and written.
-use Rattle.std.proofs.Common.{◌≡◌, ℕ, Bool, true, List, Option, Some, None, Result, Err, sym, ap, subst, ◌∙◌, inl, inr, refl, Bor}
+use Rattle.std.proofs.Common.{◌≡◌, ◌⊎◌, ℕ, Bool, true, List, Option, Some, None, Result, Err, sym, ap, subst, ◌∙◌, inl, inr, refl, Bor}
 use Rattle.std.specs.Prelude.{Contains, IfSome, IfErr}
 use Rattle.lfs_request.specs.declared.fault.Fault.{Fault}
-use Rattle.lfs_request.specs.declared.fault.Fault.TheVariants.{Refused, CannotWrite}
+use Rattle.lfs_request.specs.declared.fault.Fault.TheVariants.{Refused, CannotWrite, Differ}
 use Rattle.lfs_request.specs.declared.manner.Manner.{Manner}
 use Rattle.lfs_request.specs.View.{start_of}
 use Rattle.lfs_request.specs.declared.outcome.Outcome.{Outcome}
@@ -19,13 +19,14 @@ use Rattle.lfs_exchange.specs.Handing.{HandedBytes, HandsImage, HandsJournal, Is
 use Rattle.lfs_serve.specs.StepKind.{kind_of}
 use Rattle.lfs_exchange.specs.Storing.{LeavesFiles, SparesFiles}
 use Rattle.lfs_host.specs.Files.{Files, IsTarget, ReadsFrom}
-use Rattle.lfs_host.specs.Scene.{HasClaimed, KeepsAll, KeepsScene, Scene, is_blamed}
+use Rattle.lfs_host.specs.Scene.{HasClaimed, HasRefused, KeepsAll, KeepsScene, Scene, is_blamed}
 use Rattle.lfs_host.proofs.BlameLemmas.{blamed_has_refused}
 use Rattle.lfs_report.specs.Stop.{stopped_by}
 use Rattle.lfs_report.specs.declared.stop.Stop.{Stop}
 use Rattle.lfs_serve.specs.Later.{later_read, refused_by}
 use Rattle.lfs_serve.specs.ReadBy.{IsReadBy, WantsMemory, IsAskedBy}
-use Rattle.lfs_serve.specs.Program.{EndsStep, IsBlamed, RunsStep, StopsStep}
+use Rattle.lfs_exchange.specs.Printing.{HandsOn}
+use Rattle.lfs_serve.specs.Program.{EndsStep, IsBlamed, RunsStep, StopsStep, is_answered}
 use Rattle.lfs_report.specs.declared.later.Later.{Later}
 
 -- ---- the file that a name leads to
@@ -131,17 +132,17 @@ handed_at kind name s h place start same is = subst (λ (at : ℕ). IsHanded kin
 -- ---- questions
 
 asked_kind : (by_device : Bool) (old new : Question) → IsAskedBy by_device old new → kind_of_query new ≡ kind_of_query old
-asked_kind by_device (Diff other size) (Diff read read_size) is = refl
-asked_kind by_device (Diff other size) _ is = absurd is
+asked_kind by_device (Diff other size quiet) (Diff read read_size is_quiet) is = refl
+asked_kind by_device (Diff other size quiet) _ is = absurd is
 asked_kind by_device old new is = ap (λ (q : Question). kind_of_query q) is
 
 hands_kind : (files : Option Files) (query : Query (Bor (List ℕ))) (asked : Question) → HandsQuestion files query asked
     → kind_of_query asked ≡ kind_of_query query
 hands_kind files Check Check is = refl
-hands_kind files Ls Ls is = refl
+hands_kind files (Ls path) (Ls same_path) is = refl
 hands_kind files (Blocks sums) (Blocks same) is = refl
 hands_kind files (Cat path) (Cat text) is = refl
-hands_kind files (Diff name size) (Diff other other_size) is = refl
+hands_kind files (Diff name size quiet) (Diff other other_size is_quiet) is = refl
 hands_kind files Log Log is = refl
 hands_kind files _ _ is = absurd is
 
@@ -213,16 +214,38 @@ ends_wanting step manner size name old new ended fault is wants keeps =
 -- a run that is refused changes no file
 pub ends_refused : (step : Step) (manner : Manner) (size : ℕ) (name : List ℕ) (old new : Scene) (ended : Option Fault) (fault : Fault) (outcome : Outcome)
     → ended ≡ Some fault → RunsStep step manner size name old new (Some fault) outcome → new.files ≡ old.files
-    → EndsStep step manner size name old new ended
-ends_refused step manner size name old new ended fault outcome is runs same =
-    ends_stopped step manner size name old new ended fault is (inl (outcome, runs, same))
+    → (fault ≡ Differ → HandsOn (kind_of step) new) → EndsStep step manner size name old new ended
+ends_refused step manner size name old new ended fault outcome is runs same handed =
+    ends_stopped step manner size name old new ended fault is (inl (outcome, runs, same, handed))
 
 -- what the host refuses behind a run spares the files
 pub ends_behind : (step : Step) (manner : Manner) (size : ℕ) (name : List ℕ) (old new : Scene) (ended : Option Fault) (fault : Fault) (outcome : Outcome)
-    → ended ≡ Some fault → IsUnwritten new fault → RunsStep step manner size name old new None outcome
+    (answered : Option Fault) → is_answered answered ≡ true → ended ≡ Some fault → IsUnwritten new fault
+    → RunsStep step manner size name old new answered outcome
     → SparesFiles fault (kind_of step) new.has_refused_place old.files new.files name outcome → EndsStep step manner size name old new ended
-ends_behind step manner size name old new ended fault outcome is unwritten runs spares =
-    ends_stopped step manner size name old new ended fault is (inr (inr (unwritten, (outcome, runs, spares))))
+ends_behind step manner size name old new ended fault outcome answered whole is unwritten runs spares =
+    ends_stopped step manner size name old new ended fault is (inr (inr (unwritten, (answered, whole, outcome, runs, spares))))
+
+-- nor does what kept the answer to a question from being handed on, which two images differ
+pub ends_unhanded : (step : Step) (manner : Manner) (size : ℕ) (name : List ℕ) (old new : Scene) (kind : StepKind) (ended fault : Fault) (outcome : Outcome)
+    → kind ≡ kind_of step → fault ≡ Differ → ended ≡ CannotWrite → HasRefused new → (kind ≡ Asks) ⊎ (kind ≡ Recounts)
+    → RunsStep step manner size name old new (Some fault) outcome → new.files ≡ old.files → EndsStep step manner size name old new (Some ended)
+ends_unhanded step manner size name old new kind ended fault outcome kind_is differs is refused asks runs same =
+    let spares : SparesFiles CannotWrite (kind_of step) new.has_refused_place old.files new.files name outcome =
+    spares_asked (kind_of step) new.has_refused_place old.files new.files name outcome (asks_so kind (kind_of step) kind_is asks) same in
+    subst (λ (f : Fault). EndsStep step manner size name old new (Some f)) (sym is)
+    (ends_behind step manner size name old new (Some CannotWrite) CannotWrite outcome (Some Differ) refl refl refused
+    (subst (λ (f : Fault). RunsStep step manner size name old new (Some f) outcome) differs runs) spares)
+  where
+    asks_so : (kind other : StepKind) → kind ≡ other → (kind ≡ Asks) ⊎ (kind ≡ Recounts) → (other ≡ Asks) ⊎ (other ≡ Recounts)
+    asks_so kind other same asks = subst (λ (k : StepKind). (k ≡ Asks) ⊎ (k ≡ Recounts)) same asks
+
+    spares_asked : (kind : StepKind) (placed : Option Bool) (old new : Option Files) (name : List ℕ) (o : Outcome)
+        → (kind ≡ Asks) ⊎ (kind ≡ Recounts) → new ≡ old → SparesFiles CannotWrite kind placed old new name o
+    spares_asked kind placed old new name o (inl asks) same =
+        subst (λ (k : StepKind). SparesFiles CannotWrite k placed old new name o) (sym asks) same
+    spares_asked kind placed old new name o (inr recounts) same =
+        subst (λ (k : StepKind). SparesFiles CannotWrite k placed old new name o) (sym recounts) same
 
 -- ---- a step on a host with the same files and standard output
 
@@ -250,18 +273,20 @@ step_from step manner size name mid old new None files printed (outcome, runs, l
   subst (λ (f : Option Files). LeavesFiles (kind_of step) f new.files name outcome) files leaves,
   flushed,
 )
-step_from step manner size name mid old new (Some fault) files printed (inl (outcome, runs, same)) =
-    inl (outcome, runs_from step manner size name mid old new (Some fault) outcome files printed runs, same ∙ files)
+step_from step manner size name mid old new (Some fault) files printed (inl (outcome, runs, same, handed)) =
+    inl (outcome, runs_from step manner size name mid old new (Some fault) outcome files printed runs, same ∙ files, handed)
 step_from step manner size name mid old new (Some fault) files printed (inr (inl (inl (h, handed, refused), keeps))) =
     inr (inl (inl (h, handed_from (kind_of step) (start_of manner.view) name mid old h files handed, refused), (keeps.0 ∙ files, keeps.1 ∙ printed)))
 step_from step manner size name mid old new (Some fault) files printed (inr (inl (inr wants, keeps))) =
     inr (inl (inr wants, (keeps.0 ∙ files, keeps.1 ∙ printed)))
-step_from step manner size name mid old new (Some fault) files printed (inr (inr (unwritten, (outcome, runs, spares)))) =
+step_from step manner size name mid old new (Some fault) files printed (inr (inr (unwritten, (answered, whole, outcome, runs, spares)))) =
     inr (inr (
       unwritten,
       (
+        answered,
+        whole,
         outcome,
-        runs_from step manner size name mid old new None outcome files printed runs,
+        runs_from step manner size name mid old new answered outcome files printed runs,
         subst (λ (f : Option Files). SparesFiles fault (kind_of step) new.has_refused_place f new.files name outcome) files spares,
       ),
     ))

@@ -1,7 +1,7 @@
 -- What the program does with the files of a host (own).
 use Rattle.std.specs.Prelude.{ℕ, ◌≡◌, ◌⊎◌, ⊤, Bool, true, false, List, [], ◌∷◌, Option, Some, None, map}
 use Rattle.lfs_request.specs.declared.fault.Fault.{Fault}
-use Rattle.lfs_request.specs.declared.fault.Fault.TheVariants.{CannotWrite}
+use Rattle.lfs_request.specs.declared.fault.Fault.TheVariants.{CannotWrite, Differ}
 use Rattle.lfs_request.specs.declared.manner.Manner.{Manner}
 use Rattle.lfs_request.specs.declared.outcome.Outcome.{Outcome}
 use Rattle.lfs_request.specs.Fault.{status_of}
@@ -62,14 +62,22 @@ abbrev pub IsLater : Step → Manner → ℕ → List ℕ → Scene → Fault �
 IsLater step manner size name old fault =
     (h : HandedBytes) × IsHanded (kind_of step) (start_of manner.view) name old h × (refused_by manner (later_read step size h.image) ≡ Some fault)
 
--- why a step wasn't done: `run` refused it; a commit of a later version was refused, or memory was wanting to read the image; or the host
--- refused something behind that
+-- a question is answered: nothing is refused, or two images differ
+abbrev pub is_answered : Option Fault → Bool
+is_answered None = true
+is_answered (Some Differ) = true
+is_answered (Some fault) = false
+
+-- why a step wasn't done: `run` refused it, or said of two images that they differ, which is handed on; a commit of a later version was
+-- refused, or memory was wanting to read the image; or the host refused something behind that
 abbrev pub StopsStep : Step → Manner → ℕ → List ℕ → Scene → Scene → Fault → Type 0
 StopsStep step manner size name old new fault =
-    ((outcome : Outcome) × RunsStep step manner size name old new (Some fault) outcome × (new.files ≡ old.files))
+    ((outcome : Outcome) × RunsStep step manner size name old new (Some fault) outcome × (new.files ≡ old.files)
+    × (fault ≡ Differ → HandsOn (kind_of step) new))
     ⊎ ((IsLater step manner size name old fault ⊎ WantsMemory manner.view fault) × KeepsScene old new)
-    ⊎ (IsUnwritten new fault × ((outcome : Outcome)
-    × RunsStep step manner size name old new None outcome × SparesFiles fault (kind_of step) new.has_refused_place old.files new.files name outcome))
+    ⊎ (IsUnwritten new fault × ((answered : Option Fault) × (is_answered answered ≡ true) × (outcome : Outcome)
+    × RunsStep step manner size name old new answered outcome
+    × SparesFiles fault (kind_of step) new.has_refused_place old.files new.files name outcome))
 
 -- how a step on an image's file ends: done, the files have the bytes of the outcome, and an answer is handed on; or with a fault
 abbrev pub EndsStep : Step → Manner → ℕ → List ℕ → Scene → Scene → Option Fault → Type 0

@@ -28,6 +28,7 @@ WantsMemory view fault = IsReadAnew view × (fault ≡ Refused Memory)
 
 -- a question, whose other image is read as a device does, where that is asked for
 abbrev pub IsAskedBy : Bool → Question → Question → Type 0
-IsAskedBy by_device (Diff old size) (Diff new new_size) = (new_size ≡ size) × IsReadAs by_device size old.items new.items
-IsAskedBy by_device (Diff old size) _ = ⊥
+IsAskedBy by_device (Diff old size quiet) (Diff new new_size is_quiet) =
+    (new_size ≡ size) × (is_quiet ≡ quiet) × IsReadAs by_device size old.items new.items
+IsAskedBy by_device (Diff old size quiet) _ = ⊥
 IsAskedBy by_device old new = new ≡ old

@@ -79,6 +79,7 @@ fn later_read(step: &Step<'_>, size: u32, image: &[u8]) -> Later
             Query::Diff {
                 other,
                 size: other_size,
+                ..
             },
         ) => later_version(other, *other_size),
         _ => None,

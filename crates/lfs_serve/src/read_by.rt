@@ -32,9 +32,10 @@ pub(crate) fn asked_by<'a>(
     ensures { IfOk result (IsAskedBy by_device question.entry) }
 {
     match question {
-        Query::Diff { other, size } => Ok(Query::Diff {
+        Query::Diff { other, size, quiet } => Ok(Query::Diff {
             other: read_as(alloc, by_device, size, other)?,
             size,
+            quiet,
         }),
         question => Ok(question),
     }

@@ -7,7 +7,7 @@ use lfs_step::Step;
 /// What is seen of a step. Takes no memory.
 pub(crate) fn seen_of(step: &Step<'_>) -> Seen {
     let other = match step {
-        Step::Ask(Query::Diff { other, size }) => Sight::of(*size, other),
+        Step::Ask(Query::Diff { other, size, .. }) => Sight::of(*size, other),
         _ => Sight::none(),
     };
     let count = match step {

@@ -1,10 +1,13 @@
 //! A step on an image's file.
 
-ghost use Rattle.std.specs.Prelude.{◌≡◌, IfOk, string_bytes};
+ghost use Rattle.std.specs.Prelude.{◌≡◌, ◌⊎◌, IfErr, IfOk, OnOk, string_bytes};
 ghost use Rattle.lfs_exchange.specs.Handing.{IsClaimed, IsHanded};
 ghost use Rattle.lfs_serve.specs.StepKind.{kind_of};
 ghost use Rattle.lfs_host.specs.Files.{IsTarget};
-ghost use Rattle.lfs_host.specs.Scene.{KeepsInput};
+ghost use Rattle.lfs_exchange.specs.Printing.{HandsOn};
+ghost use Rattle.lfs_exchange.specs.declared.step_kind.StepKind.TheVariants.{Asks, Recounts};
+ghost use Rattle.lfs_host.specs.Scene.{HasRefused, KeepsAll, KeepsInput};
+ghost use Rattle.lfs_request.specs.declared.fault.Fault.TheVariants.{CannotWrite, Differ};
 ghost use Rattle.lfs_report.specs.Stop.{stopped_by};
 ghost use Rattle.lfs_request.specs.View.{start_of};
 ghost use Rattle.lfs_step.specs.Outcome.{Answers, SendsText, given};
@@ -15,10 +18,10 @@ use crate::later::pass_step;
 use crate::new_image::with_new_image;
 use crate::read_by::read_by;
 use crate::seeing::seen_of;
-use lfs_exchange::{Handed, Output, stored};
+use lfs_exchange::{Handed, Output, StepKind, flush, stored};
 use lfs_host::Host;
 use lfs_report::{Beside, Stop, stop_of_run};
-use lfs_request::{Manner, Outcome, Request, View};
+use lfs_request::{Fault, Manner, Outcome, Request, View};
 use lfs_step::{Step, run};
 use std::alloc::Global;
 
@@ -86,10 +89,42 @@ pub(crate) fn stepped_in<H: Host>(
     let image = read_by(alloc, manner.view, request.size, image)?;
     match taken(alloc, host, request, beside, step, image, journal) {
         Ok(outcome) => Ok(stored(alloc, host, kind, target.as_str(), &outcome)?),
-        Err(stop) => {
-            let name = target.as_str();
-            Err(with_new_image(alloc, host, request.size, name, stop))
-        }
+        Err(stop) => Err(stopped(alloc, host, request.size, kind, target.as_str(), stop)),
+    }
+}
+
+/// Hands on the answer to a question; of other steps nothing is answered.
+fn handed_on<H: Host>(host: &mut H, kind: StepKind) -> Result<(), Fault>
+    ensures flushed { OnOk result (HandsOn kind (H.known host.new)) }
+    ensures refused { IfErr result (λ fault. (fault ≡ CannotWrite) × HasRefused (H.known host.new) × ((kind ≡ Asks) ⊎ (kind ≡ Recounts))) }
+    ensures kept { KeepsAll (H.known host.old) (H.known host.new) }
+{
+    match kind {
+        StepKind::Asks | StepKind::Recounts => flush(host),
+        _ => Ok(()),
+    }
+}
+
+/// Why a step on an image of this name ended early: what differs of two images is handed on.
+fn stopped<H: Host>(
+    alloc: Global,
+    host: &mut H,
+    size: u32,
+    kind: StepKind,
+    name: &str,
+    stop: Stop,
+) -> Stop
+    ensures ended { ((result.fault ≡ stop.fault) × (stop.fault ≡ Differ → HandsOn kind (H.known host.new)))
+        ⊎ ((stop.fault ≡ Differ) × (result.fault ≡ CannotWrite) × HasRefused (H.known host.new) × ((kind ≡ Asks) ⊎ (kind ≡ Recounts))) }
+    ensures blamed { IsBlamed (Some stop.fault) (H.known host.old) → IsBlamed (Some stop.fault) (H.known host.new) }
+    ensures kept { KeepsAll (H.known host.old) (H.known host.new) }
+{
+    let Fault::Differ = stop.fault else {
+        return with_new_image(alloc, host, size, name, stop);
+    };
+    match handed_on(host, kind) {
+        Ok(()) => stop,
+        Err(fault) => Stop::from(fault),
     }
 }
 

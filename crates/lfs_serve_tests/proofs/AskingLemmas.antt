@@ -47,18 +47,18 @@ all_left kind old new name o (inr asks) leaves = subst (λ (k : StepKind). Leave
 -- what asks is of one of two kinds
 asks_of : (q : Question) → (kind_of (Ask q) ≡ Asks) ⊎ (kind_of (Ask q) ≡ Recounts)
 asks_of query.Check = inl refl
-asks_of query.Ls = inl refl
+asks_of (query.Ls path) = inl refl
 asks_of (query.Blocks sums) = inl refl
 asks_of (query.Cat path) = inl refl
-asks_of (query.Diff other size) = inl refl
+asks_of (query.Diff other size quiet) = inl refl
 asks_of query.Log = inr refl
 
 step_keeps : (fault : Option Fault) (step : Step) (manner : Manner) (size : ℕ) (name : List ℕ) (old new : Scene)
     → (kind_of step ≡ Asks) ⊎ (kind_of step ≡ Recounts) → EndsStep step manner size name old new fault → new.files ≡ old.files
 step_keeps None step manner size name old new asks (o, runs, leaves, flushed) = all_left (kind_of step) old.files new.files name o asks leaves
-step_keeps (Some fault) step manner size name old new asks (inl (o, runs, same)) = same
+step_keeps (Some fault) step manner size name old new asks (inl (o, runs, same, handed)) = same
 step_keeps (Some fault) step manner size name old new asks (inr (inl (why, keeps))) = keeps.0
-step_keeps (Some fault) step manner size name old new asks (inr (inr (unwritten, (o, runs, spares)))) =
+step_keeps (Some fault) step manner size name old new asks (inr (inr (unwritten, (answered, whole, o, runs, spares)))) =
     all_spared fault (kind_of step) new.has_refused_place old.files new.files name o asks spares
 
 task_keeps : (fault : Option Fault) (t : Task) (older : Bool) (size : ℕ) (name : List ℕ) (old new : Scene) → OnlyAsks t

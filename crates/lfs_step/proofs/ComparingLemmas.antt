@@ -1,14 +1,18 @@
 -- What is answered of two images that are compared.
-use Rattle.std.proofs.Common.{◌≡◌, ◌⊎◌, ℕ, List, Option, None, Some, true, false, rules, refl, sym, subst}
-use Rattle.std.specs.Io.KnownBytes.{Keeps}
+use Rattle.std.proofs.Common.{◌≡◌, ◌⊎◌, ◌∙◌, ℕ, Bool, List, [], ◌∷◌, ◌++◌, Option, None}
+use Rattle.std.proofs.Common.{Some, Result, Ok, Err, true, false, rules, refl, sym, ap, subst, append-nil}
+use Rattle.std.specs.Prelude.{IfErr, IfOk}
+use Rattle.std.specs.Result.{result_err}
+use Rattle.std.specs.Io.KnownBytes.{Appends, Keeps}
 use mathlib.Core.Logic.{inl, inr}
 use Rattle.lfs_block.specs.Disk.{Disk, IsDisk, image_of}
 use Rattle.lfs_block.specs.declared.mount_fault.MountFault.{MountFault}
 use Rattle.lfs_fs.specs.Cause.{HasCause}
 use Rattle.lfs_fs.specs.Mounted.{MountedValue, IsMountOf}
 use Rattle.lfs_command.specs.declared.refusal.Refusal.TheVariants as refusal
-use Rattle.lfs_listing.specs.Difference.{difference}
-use Rattle.lfs_listing.specs.Unsent.{SendsListing}
+use Rattle.lfs_fs.specs.declared.limits.Limits.{Limits}
+use Rattle.lfs_listing.specs.Difference.{difference, is_some_text}
+use Rattle.lfs_listing.specs.Unsent.{SendsListing, blames_sink}
 use Rattle.lfs_listing.specs.declared.unsent.Unsent.{Unsent}
 use Rattle.lfs_listing.specs.declared.unsent.Unsent.TheVariants.{Memory, CannotWrite}
 use Rattle.lfs_request.specs.declared.fault.Fault.{Fault}
@@ -18,28 +22,74 @@ use Rattle.lfs_request.specs.Fault.{blames_output, fault_of_mount}
 use Rattle.lfs_block.specs.declared.mount_fault.MountFault.TheVariants.{Memory as No_memory}
 use Rattle.lfs_block.proofs.BytesLemmas.{at_bytes}
 use Rattle.lfs_step.specs.Comparing.{IsDifference, RefusesCompared, RefusesDifference, SendsCompared, SendsDifference}
-use Rattle.lfs_step.specs.Query.{fault_of_unsent}
+use Rattle.lfs_step.specs.Comparing.{end_of, image_difference, limits_difference, said_text}
 
--- ---- a difference that didn't go out as a whole
+-- ---- a difference that was said, or didn't go out as a whole
 
-difference_is : (d e : Disk) (m n : MountedValue) → IsMountOf d m → IsMountOf e n → IsDifference d e (difference d m.rows e n.rows)
+difference_is : (d e : Disk) (m n : MountedValue) → IsMountOf d m → IsMountOf e n → IsDifference d e (image_difference d m e n)
 difference_is d e m n first second = record { first = m; second = n; mounts = (first, second); text_is = refl }
 
-pub difference_sent : (d e : Disk) (m n : MountedValue) → IsMountOf d m → IsMountOf e n → (old new : Option (List ℕ))
-    → SendsListing None old new (difference d m.rows e n.rows) → SendsDifference d e None old new
-difference_sent d e m n first second old new sends = (difference d m.rows e n.rows, difference_is d e m n first second, sends)
+-- the line of the limits in front of what differs between the trees
+pub with_limits : (d e : Disk) (m n : MountedValue) (a b : Limits) (line : List ℕ) → a ≡ m.outline.limits → b ≡ n.outline.limits
+    → line ≡ limits_difference a b → line ++ difference d m.rows e n.rows ≡ image_difference d m e n
+with_limits d e m n a b line first second is =
+    ap (λ (l : List ℕ). l ++ difference d m.rows e n.rows)
+    (is ∙ ap (λ (x : Limits). limits_difference x b) first ∙ ap (λ (x : Limits). limits_difference m.outline.limits x) second)
 
-pub difference_refused : (d e : Disk) (m n : MountedValue) → IsMountOf d m → IsMountOf e n → (u : Unsent)
-    → RefusesDifference d e (fault_of_unsent u)
-difference_refused d e m n first second Memory = refl
-difference_refused d e m n first second CannotWrite = (difference d m.rows e n.rows, difference_is d e m n first second)
+none_there : (text : List ℕ) → false ≡ is_some_text text → text ≡ []
+none_there [] is = refl
+none_there (byte ∷ bytes) is = absurd (cc)
 
-pub difference_unsent : (d e : Disk) (m n : MountedValue) → IsMountOf d m → IsMountOf e n → (u : Unsent) (old new : Option (List ℕ))
-    → SendsListing (Some u) old new (difference d m.rows e n.rows) → SendsDifference d e (Some (fault_of_unsent u)) old new
-difference_unsent d e m n first second Memory old new (k, within, sends) =
-    inr (difference d m.rows e n.rows, difference_is d e m n first second, k, within, sends)
-difference_unsent d e m n first second CannotWrite old new sends =
-    (difference d m.rows e n.rows, difference_is d e m n first second, sends)
+said_none : (quiet : Bool) → said_text quiet [] ≡ []
+said_none true = refl
+said_none false = refl
+
+keeps_none : (old new : Option (List ℕ)) → Appends old new [] → Keeps old new
+keeps_none None new sends = tt
+keeps_none (Some x) None sends = absurd sends
+keeps_none (Some x) (Some y) sends = sends ∙ append-nil x
+
+pub difference_ended : (quiet : Bool) (d e : Disk) (m n : MountedValue) → IsMountOf d m → IsMountOf e n → (r : Result Bool Unsent)
+    (old new : Option (List ℕ)) → SendsListing (result_err r) old new (said_text quiet (image_difference d m e n))
+    → IfOk r (λ differs. differs ≡ is_some_text (image_difference d m e n)) → SendsDifference quiet d e (end_of r) old new
+difference_ended quiet d e m n first second (Ok false) old new sends is =
+    let none : image_difference d m e n ≡ [] = none_there (image_difference d m e n) is in (
+      subst (IsDifference d e) none (difference_is d e m n first second),
+      keeps_none old new (subst (λ (text : List ℕ). Appends old new text) (ap (said_text quiet) none ∙ said_none quiet) sends),
+    )
+difference_ended quiet d e m n first second (Ok true) old new sends is =
+    (image_difference d m e n, difference_is d e m n first second, sends)
+difference_ended quiet d e m n first second (Err Memory) old new (k, within, sends) is =
+    inr (image_difference d m e n, difference_is d e m n first second, k, within, sends)
+difference_ended quiet d e m n first second (Err CannotWrite) old new sends is =
+    (image_difference d m e n, difference_is d e m n first second, sends)
+
+fault_in : Fault → Option Fault → Fault
+fault_in other None = other
+fault_in other (Some f) = f
+
+pub difference_refused : (d e : Disk) (m n : MountedValue) → IsMountOf d m → IsMountOf e n → (r : Result Bool Unsent) (f : Fault)
+    → IfOk r (λ differs. differs ≡ is_some_text (image_difference d m e n)) → end_of r ≡ Some f → RefusesDifference d e f
+unfolding fault_in
+difference_refused d e m n first second (Ok false) f is ends = absurd (cc)
+difference_refused d e m n first second (Ok true) f is ends =
+    subst (RefusesDifference d e) (ap (fault_in f) ends) (image_difference d m e n, difference_is d e m n first second, sym is)
+difference_refused d e m n first second (Err Memory) f is ends = subst (RefusesDifference d e) (ap (fault_in f) ends) refl
+difference_refused d e m n first second (Err CannotWrite) f is ends =
+    subst (RefusesDifference d e) (ap (fault_in f) ends) (image_difference d m e n, difference_is d e m n first second)
+
+-- the sink is blamed by what ends
+pub ends_blamed : (r : Result Bool Unsent) → blames_sink (result_err r) ≡ blames_output (end_of r)
+ends_blamed (Ok false) = refl
+ends_blamed (Ok true) = refl
+ends_blamed (Err Memory) = refl
+ends_blamed (Err CannotWrite) = refl
+
+-- what is refused is what ends
+pub refused_as : (r : Result (Unit {0}) Fault) (ends : Option Fault) (P : Fault → Type 0) → result_err r ≡ ends
+    → ((f : Fault) → ends ≡ Some f → P f) → IfErr r P
+refused_as (Ok done) ends P is each = tt
+refused_as (Err f) ends P is each = each f (sym is)
 
 -- ---- the second image
 
@@ -52,34 +102,27 @@ other_refused d e m f first (inr (cause, is, has)) = subst (RefusesDifference d 
 
 -- ---- nothing goes out
 
-same_kept : (o : Option (List ℕ)) → Keeps o o
+pub same_kept : (o : Option (List ℕ)) → Keeps o o
 same_kept None = search rules
 same_kept (Some l) = search rules
 
--- with a fault that isn't standard output's
-silent : (d e : Disk) (f : Fault) (o : Option (List ℕ)) → blames_output (Some f) ≡ false → SendsDifference d e (Some f) o o
-silent d e (fault.Refused r) o other = inl (same_kept o)
-silent d e fault.CannotWrite o other = absurd (not_both other)
-  where
-    not_both : true ≡ false → ⊥
-    not_both bad = cc
-silent d e _ o other = same_kept o
-
-mount_not_blamed : (cause : MountFault) → blames_output (Some (fault_of_mount cause)) ≡ false
-mount_not_blamed No_memory = refl
-mount_not_blamed _ = refl
+mount_silent : (quiet : Bool) (d e : Disk) (cause : MountFault) (o : Option (List ℕ))
+    → SendsDifference quiet d e (Some (fault_of_mount cause)) o o
+mount_silent quiet d e No_memory o = inl (same_kept o)
+mount_silent quiet d e _ o = same_kept o
 
 -- where the first image doesn't mount
-pub first_silent : (d e : Disk) (cause : MountFault) (f : Fault) (o : Option (List ℕ)) → f ≡ fault_of_mount cause → SendsDifference d e (Some f) o o
-first_silent d e cause f o is =
-    subst (λ (x : Fault). SendsDifference d e (Some x) o o) (sym is) (silent d e (fault_of_mount cause) o (mount_not_blamed cause))
+pub first_silent : (quiet : Bool) (d e : Disk) (cause : MountFault) (f : Fault) (o : Option (List ℕ)) → f ≡ fault_of_mount cause
+    → SendsDifference quiet d e (Some f) o o
+first_silent quiet d e cause f o is =
+    subst (λ (x : Fault). SendsDifference quiet d e (Some x) o o) (sym is) (mount_silent quiet d e cause o)
 
 -- where the second doesn't
-pub second_silent : (d e : Disk) (f : Fault) (o : Option (List ℕ))
+pub second_silent : (quiet : Bool) (d e : Disk) (f : Fault) (o : Option (List ℕ))
     → (f ≡ fault.Refused refusal.Memory) ⊎ ((cause : MountFault) × (f ≡ fault.Other (other.Mount cause)) × HasCause e cause)
-    → SendsDifference d e (Some f) o o
-second_silent d e f o (inl memory) = subst (λ (x : Fault). SendsDifference d e (Some x) o o) (sym memory) (inl (same_kept o))
-second_silent d e f o (inr (cause, is, has)) = subst (λ (x : Fault). SendsDifference d e (Some x) o o) (sym is) (same_kept o)
+    → SendsDifference quiet d e (Some f) o o
+second_silent quiet d e f o (inl memory) = subst (λ (x : Fault). SendsDifference quiet d e (Some x) o o) (sym memory) (inl (same_kept o))
+second_silent quiet d e f o (inr (cause, is, has)) = subst (λ (x : Fault). SendsDifference quiet d e (Some x) o o) (sym is) (same_kept o)
 
 -- ---- bytes
 
@@ -95,7 +138,7 @@ pub compared_refused : (d e : Disk) (size : ℕ) (others : List ℕ) (f : Fault)
 compared_refused d e size others f is sizes same refuses =
     both_refused d size others f (at_bytes e size others (λ x. IsDisk x × RefusesDifference d x f) is sizes same (is, refuses))
 
-pub compared_sent : (d e : Disk) (size : ℕ) (others : List ℕ) (f : Option Fault) (old new : Option (List ℕ)) → IsDisk e → e.size ≡ size
-    → e.bytes ≡ others → SendsDifference d e f old new → SendsCompared d size others f old new
-compared_sent d e size others f old new is sizes same sends =
-    at_bytes e size others (λ x. SendsDifference d x f old new) is sizes same sends
+pub compared_sent : (quiet : Bool) (d e : Disk) (size : ℕ) (others : List ℕ) (f : Option Fault) (old new : Option (List ℕ)) → IsDisk e
+    → e.size ≡ size → e.bytes ≡ others → SendsDifference quiet d e f old new → SendsCompared quiet d size others f old new
+compared_sent quiet d e size others f old new is sizes same sends =
+    at_bytes e size others (λ x. SendsDifference quiet d x f old new) is sizes same sends

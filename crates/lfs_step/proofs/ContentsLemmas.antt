@@ -1,7 +1,7 @@
 -- What is read of a file at a path of a mounted image, and why nothing is.
 use Rattle.std.proofs.Common.{◌≡◌, ◌⊎◌, List, [], ◌∷◌, ◌++◌, ℕ, nat_lt, Bool, false, arith, Option, Some, None, refl, ap, sym, ◌∙◌, subst}
 use Rattle.std.proofs.Common.{append_assoc, inl, inr}
-use Rattle.std.specs.Prelude.{is_none}
+use Rattle.std.specs.Prelude.{is_none, is_some}
 use Rattle.std.specs.List.{AllByRecursion}
 use Rattle.std.specs.Option.{option_map}
 use Rattle.std.proofs.lemmas.Bool.Decides.{nat_tests}
@@ -29,7 +29,8 @@ use Rattle.lfs_command.specs.Verdict.{checks, first_refusal, refuse_if, walk_ref
 use Rattle.lfs_edit.proofs.VerdictKinds.{IsOfVerdict, MayBeOfVerdict, of_first, of_test, of_walk}
 use Rattle.lfs_edit.proofs.Verdicts.{refused_first}
 use Rattle.lfs_law.proofs.Walks.{walk-none}
-use Rattle.lfs_step.specs.Contents.{IsContents, HasNoFile, RefusesContents, reading_checks}
+use Rattle.lfs_step.specs.Contents.{Checks, FailsCheck, IsContents, RefusesContents, RefusesPath, reading_checks}
+use Rattle.lfs_step.specs.Listed.{IsThere, RefusesListing, standing_checks}
 
 -- ---- the walk of a path where something is
 
@@ -72,30 +73,37 @@ of_reading : (t : Path → Option Node) (path : Path) → AllByRecursion MayBeOf
 unfolding IsOfVerdict
 of_reading t path = (of_walk t [] path, (of_test (is_none (t path)) NotFound tt, (of_test (is_directory (t path)) IsADirectory tt, tt)))
 
-refused_by : (d : Disk) (text : List ℕ) (r : Refusal) → IsOfVerdict r → HasNoFile d text r → RefusesContents d text r
+refused_by : (checks : Checks) (d : Disk) (text : List ℕ) (r : Refusal) → IsOfVerdict r → FailsCheck checks d text r
+    → RefusesPath checks d text r
 unfolding IsOfVerdict
-refused_by d text BadPath of refused = absurd of
-refused_by d text Memory of refused = absurd of
-refused_by d text NotFound of refused = refused
-refused_by d text Exists of refused = refused
-refused_by d text NotADirectory of refused = refused
-refused_by d text IsADirectory of refused = refused
-refused_by d text NotEmpty of refused = refused
-refused_by d text NameTooLong of refused = refused
-refused_by d text FileTooLarge of refused = refused
-refused_by d text AttrTooLarge of refused = refused
-refused_by d text NoAttr of refused = refused
-refused_by d text IntoItself of refused = refused
-refused_by d text IsRoot of refused = refused
-refused_by d text EntryTooLarge of refused = refused
-refused_by d text (NoSpace needed free) of refused = refused
-refused_by d text BadCount of refused = refused
+refused_by checks d text BadPath of refused = absurd of
+refused_by checks d text Memory of refused = absurd of
+refused_by checks d text NotFound of refused = refused
+refused_by checks d text Exists of refused = refused
+refused_by checks d text NotADirectory of refused = refused
+refused_by checks d text IsADirectory of refused = refused
+refused_by checks d text NotEmpty of refused = refused
+refused_by checks d text NameTooLong of refused = refused
+refused_by checks d text FileTooLarge of refused = refused
+refused_by checks d text AttrTooLarge of refused = refused
+refused_by checks d text NoAttr of refused = refused
+refused_by checks d text IntoItself of refused = refused
+refused_by checks d text IsRoot of refused = refused
+refused_by checks d text EntryTooLarge of refused = refused
+refused_by checks d text (NoSpace needed free) of refused = refused
+refused_by checks d text BadCount of refused = refused
+
+of_standing : (t : Path → Option Node) (path : Path) → AllByRecursion MayBeOfVerdict (standing_checks t path)
+unfolding IsOfVerdict
+of_standing t path = (of_walk t [] path, (of_test (is_none (t path)) NotFound tt, tt))
 
 -- the first check that refuses
-no_file : (d : Disk) (text : List ℕ) (r : Refusal) → HasNoFile d text r → RefusesContents d text r
-no_file d text r refused =
-    refused_by d text r (subst MayBeOfVerdict refused.refused (of_first (reading_checks (tree refused.volume) refused.path)
-    (of_reading (tree refused.volume) refused.path))) refused
+first_fails : (checks : Checks) (d : Disk) (text : List ℕ) (r : Refusal)
+    → ((t : Path → Option Node) (path : Path) → AllByRecursion MayBeOfVerdict (checks t path))
+    → FailsCheck checks d text r → RefusesPath checks d text r
+first_fails checks d text r of fails =
+    refused_by checks d text r (subst MayBeOfVerdict fails.refused (of_first (checks (tree fails.volume) fails.path)
+    (of (tree fails.volume) fails.path))) fails
 
 -- ---- the first checks on an outline
 
@@ -128,7 +136,7 @@ module _ (shows : RowsShowTheTree) (d : Disk) (disk : IsDisk d) (m : MountedValu
     (spelled : IsPathText text path) where
   -- a check refuses
   refused_check : (r : Refusal) → first_refusal (reading_checks (tree is.volume) path) ≡ Some r → RefusesContents d text r
-  refused_check r refused = no_file d text r (record {
+  refused_check r refused = first_fails reading_checks d text r of_reading (record {
     volume = is.volume;
     holds = is.holds;
     sound = is.sound;
@@ -136,6 +144,34 @@ module _ (shows : RowsShowTheTree) (d : Disk) (disk : IsDisk d) (m : MountedValu
     spelled = spelled;
     refused = refused;
   })
+
+  -- the walk, or that nothing is at the path
+  walked : OutlinesAreJudgedAlike → (r : Refusal) → (path ≡ [] → ⊥) → first_refusal (entry_checks m.outline path) ≡ Some r
+      → first_refusal (there_checks is.volume path) ≡ Some r
+  walked alike r below refused =
+      there_alike alike is.volume path ∙ ap (λ (v : Volume). first_refusal (there_checks v path)) (sym is.outline)
+      ∙ sym (entry_is_there m.outline path below) ∙ refused
+
+  pub refused_listing : OutlinesAreJudgedAlike → (r : Refusal) → (path ≡ [] → ⊥) → first_refusal (entry_checks m.outline path) ≡ Some r
+      → RefusesListing d text r
+  refused_listing alike r below refused = first_fails standing_checks d text r of_standing (record {
+    volume = is.volume;
+    holds = is.holds;
+    sound = is.sound;
+    path = path;
+    spelled = spelled;
+    refused = walked alike r below refused;
+  })
+
+  -- something is there
+  pub there_listed : (e : Entry) → entry_at m.outline path ≡ Some e → IsThere d m text path
+  there_listed e at = record {
+    spelled = spelled;
+    there = λ mounts. ap is_some (shows d m mounts (record { path = path; entry = e }) disk (mounts.rows.whole path e at)).0;
+  }
+
+  pub root_listed : path ≡ [] → IsThere d m text path
+  root_listed root = record { spelled = spelled; there = λ mounts. ap (λ (p : Path). is_some (tree mounts.volume p)) root }
 
   -- where the path is the root's
   pub refused_root : path ≡ [] → RefusesContents d text IsADirectory
@@ -147,8 +183,7 @@ module _ (shows : RowsShowTheTree) (d : Disk) (disk : IsDisk d) (m : MountedValu
   refused_missing alike r below refused =
       refused_check r
       (refused_first (there_checks is.volume path) (refuse_if (is_directory (tree is.volume path)) IsADirectory ∷ []) r
-      (there_alike alike is.volume path ∙ ap (λ (v : Volume). first_refusal (there_checks v path)) (sym is.outline)
-      ∙ sym (entry_is_there m.outline path below) ∙ refused))
+      (walked alike r below refused))
 
   module _ (e : Entry) (at : entry_at m.outline path ≡ Some e) where
     here : (tree is.volume path ≡ Some (shown_node d e)) × HasBlocks d e.body

@@ -15,7 +15,7 @@ use Rattle.lfs_step.specs.Outcome.{Answers, AnswersDone, Given}
 use Rattle.lfs_step.proofs.OutcomeLemmas.{AnswersBy}
 
 -- a step that is answered without a fault is done
-done : (step : Step) (g : Given) (outcome : Outcome) → Answers step g outcome → outcome.fault ≡ None → AnswersDone step g outcome
+pub done : (step : Step) (g : Given) (outcome : Outcome) → Answers step g outcome → outcome.fault ≡ None → AnswersDone step g outcome
 done step g outcome answers none = subst (λ (f : Option Fault). AnswersBy f step g outcome) none answers
 
 moves_meet_equation : ChangedBytesAreEquations → BytesAreChangedTogether → (moves : List Move) (g : Given) (outcome : Outcome)

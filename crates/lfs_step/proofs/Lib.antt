@@ -13,3 +13,5 @@ pub mod PackedListed
 pub mod ComparingLemmas
 pub mod RecountingLemmas
 pub mod TreeLemmas
+pub mod TreeSaid
+pub mod TreesChanged

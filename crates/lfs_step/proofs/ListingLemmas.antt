@@ -1,22 +1,73 @@
 -- What is said of a listing that didn't go out as a whole.
-use Rattle.std.proofs.Common.{Bool, List, Option, Some, inr, refl, ℕ}
+use Rattle.std.proofs.Common.{◌≡◌, ◌∙◌, Bool, Bor, List, None, Option, Some, ap, inl, inr, refl, subst, sym, ℕ}
+use Rattle.std.specs.Io.KnownBytes.{Appends}
 use Rattle.lfs_block.specs.Disk.{Disk}
 use Rattle.lfs_fs.specs.Mounted.{MountedValue, IsMountOf}
-use Rattle.lfs_listing.specs.Listing.{listing}
-use Rattle.lfs_listing.specs.Unsent.{SendsListing}
+use Rattle.lfs_command.specs.declared.refusal.Refusal.{Refusal}
+use Rattle.lfs_command.specs.declared.refusal.Refusal.TheVariants.{Memory as No_memory}
+use Rattle.lfs_fs.specs.Path.{Path}
+use Rattle.lfs_listing.specs.Below.{listing_at}
+use Rattle.lfs_block.specs.declared.mount_fault.MountFault.{MountFault}
+use Rattle.lfs_block.specs.declared.mount_fault.MountFault.TheVariants.{Memory as No_memory_left}
+use Rattle.lfs_listing.specs.Unsent.{SendsListing, blames_sink}
 use Rattle.lfs_listing.specs.declared.unsent.Unsent.{Unsent}
 use Rattle.lfs_listing.specs.declared.unsent.Unsent.TheVariants.{Memory, CannotWrite}
 use Rattle.lfs_request.specs.declared.query.Query.TheVariants.{Ls, Blocks}
-use Rattle.lfs_step.specs.Query.{RefusesReport, SendsReport, blocks_text, fault_of_unsent}
+use Rattle.lfs_request.specs.declared.fault.Fault.{Fault}
+use Rattle.lfs_request.specs.declared.fault.Fault.TheVariants.{Refused}
+use Rattle.lfs_request.specs.Fault.{blames_output, fault_of_mount}
+use Rattle.lfs_step.proofs.ComparingLemmas.{same_kept}
+use Rattle.lfs_step.specs.Listed.{IsListing, IsThere, RefusesListing}
+use Rattle.lfs_step.specs.Query.{HasMount, RefusesAnswer, RefusesReport, SendsReport, blocks_text, fault_of_unsent}
 
-pub listing_refused : (d : Disk) (m : MountedValue) → IsMountOf d m → (u : Unsent) → RefusesReport Ls d (fault_of_unsent u)
-listing_refused d m is Memory = tt
-listing_refused d m is CannotWrite = (listing m.rows, (m, is, refl))
+-- the sink is blamed by the fault that is told
+pub blamed_alike : (u : Unsent) (f : Fault) → f ≡ fault_of_unsent u → blames_sink (Some u) ≡ blames_output (Some f)
+blamed_alike u f is = told u ∙ ap (λ (x : Fault). blames_output (Some x)) (sym is)
+  where
+    told : (u : Unsent) → blames_sink (Some u) ≡ blames_output (Some (fault_of_unsent u))
+    told Memory = refl
+    told CannotWrite = refl
 
-pub listing_sent : (d : Disk) (m : MountedValue) → IsMountOf d m → (u : Unsent) (old new : Option (List ℕ))
-    → SendsListing (Some u) old new (listing m.rows) → SendsReport Ls d (Some (fault_of_unsent u)) old new
-listing_sent d m is Memory old new (n, within, sends) = inr (listing m.rows, (m, is, refl), n, within, sends)
-listing_sent d m is CannotWrite old new sends = (listing m.rows, (m, is, refl), sends)
+-- nothing goes out of an image that doesn't mount
+pub listing_silent : (path : Bor (List ℕ)) (d : Disk) (cause : MountFault) (f : Fault) (o : Option (List ℕ)) → f ≡ fault_of_mount cause
+    → SendsReport (Ls path) d (Some f) o o
+listing_silent path d cause f o is =
+    subst (λ (x : Fault). SendsReport (Ls path) d (Some x) o o) (sym is) (silent path d cause o)
+  where
+    silent : (path : Bor (List ℕ)) (d : Disk) (cause : MountFault) (o : Option (List ℕ))
+        → SendsReport (Ls path) d (Some (fault_of_mount cause)) o o
+    silent path d No_memory_left o = inl (same_kept o)
+    silent path d _ o = same_kept o
+
+-- what lists a path at which something stands
+listing_is : (d : Disk) (m : MountedValue) (is : IsMountOf d m) (path : Bor (List ℕ)) (at : Path) → IsThere d m path.now at
+    → IsListing d path.now (listing_at at m.rows)
+listing_is d m is path at there = record { mounted = m; mounts = is; at = at; there = there; text_is = refl }
+
+pub listing_whole : (d : Disk) (m : MountedValue) → IsMountOf d m → (path : Bor (List ℕ)) (at : Path) → IsThere d m path.now at
+    → (old new : Option (List ℕ)) → Appends old new (listing_at at m.rows) → SendsReport (Ls path) d None old new
+listing_whole d m is path at there old new sends = (listing_at at m.rows, listing_is d m is path at there, sends)
+
+pub listing_refused : (d : Disk) (m : MountedValue) → IsMountOf d m → (path : Bor (List ℕ)) (at : Path) → IsThere d m path.now at
+    → (u : Unsent) → RefusesReport (Ls path) d (fault_of_unsent u)
+listing_refused d m is path at there Memory = tt
+listing_refused d m is path at there CannotWrite = (listing_at at m.rows, listing_is d m is path at there)
+
+pub listing_sent : (d : Disk) (m : MountedValue) → IsMountOf d m → (path : Bor (List ℕ)) (at : Path) → IsThere d m path.now at
+    → (u : Unsent) (old new : Option (List ℕ)) → SendsListing (Some u) old new (listing_at at m.rows)
+    → SendsReport (Ls path) d (Some (fault_of_unsent u)) old new
+listing_sent d m is path at there Memory old new (n, within, sends) =
+    inr (listing_at at m.rows, listing_is d m is path at there, n, within, sends)
+listing_sent d m is path at there CannotWrite old new sends = (listing_at at m.rows, listing_is d m is path at there, sends)
+
+-- a path that is refused: nothing goes out
+pub listing_unsent : (d : Disk) (m : MountedValue) → IsMountOf d m → (path : Bor (List ℕ)) (r : Refusal) → RefusesListing d path.now r
+    → RefusesReport (Ls path) d (Refused r)
+listing_unsent d m is path r refuses = path_refused d path r (m, is) refuses
+  where
+    path_refused : (d : Disk) (path : Bor (List ℕ)) (r : Refusal) → HasMount d → RefusesListing d path.now r → RefusesAnswer (Ls path) d r
+    path_refused d path No_memory has refuses = tt
+    path_refused d path r has refuses = (has, refuses)
 
 pub blocks_refused : (sums : Bool) (d : Disk) (m : MountedValue) → IsMountOf d m → (u : Unsent)
     → RefusesReport (Blocks sums) d (fault_of_unsent u)

@@ -22,10 +22,10 @@ AnswersBy fault step g outcome =
 -- an image isn't refused as bytes are
 no_image : (q : Question) (d : Disk) (journal : List ℕ) (f : _) → RefusesAsked q d journal (Image f) → ⊥
 no_image Check d journal f refuses = refuses
-no_image Ls d journal f refuses = refuses
+no_image (Ls path) d journal f refuses = refuses
 no_image (Blocks sums) d journal f refuses = refuses
 no_image (Cat path) d journal f refuses = refuses
-no_image (Diff other size) d journal f refuses = refuses.1
+no_image (Diff other size quiet) d journal f refuses = refuses.1
 no_image Log d journal f refuses = refuses
 
 refused_bytes : (q : Question) (size : ℕ) (bytes journal : List ℕ) (fault : Fault)

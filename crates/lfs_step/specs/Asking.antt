@@ -12,13 +12,13 @@ use Rattle.lfs_step.specs.Recounting.{RefusesRecount, SendsRecount}
 
 -- why nothing, or not all, is said of an image and its journal
 abbrev pub RefusesAsked : Question → Disk → List ℕ → Fault → Type 0
-RefusesAsked (Diff other size) d journal fault = RefusesCompared d size other.items fault
+RefusesAsked (Diff other size quiet) d journal fault = RefusesCompared d size other.items fault
 RefusesAsked Log d journal fault = RefusesRecount d journal fault
 RefusesAsked query d journal fault = RefusesReport query d fault
 
 -- what goes out
 abbrev pub SendsAsked : Question → Disk → List ℕ → Option Fault → Option (List ℕ) → Option (List ℕ) → Type 0
-SendsAsked (Diff other size) d journal fault old new = SendsCompared d size other.items fault old new
+SendsAsked (Diff other size quiet) d journal fault old new = SendsCompared quiet d size other.items fault old new
 SendsAsked Log d journal fault old new = SendsRecount d journal fault old new
 SendsAsked query d journal fault old new = SendsReport query d fault old new
 

@@ -30,17 +30,25 @@ reading_checks tree p =
     ∷ refuse_if (is_directory (tree p)) IsADirectory
     ∷ []
 
--- The text spells a path, at which the tree of the image has no file.
-pub record HasNoFile (d : Disk) (text : List ℕ) (r : Refusal) : Type 0 where
+-- checks of a tree at a path
+abbrev pub Checks : Type 0
+Checks = (Path → Option Node) → Path → List (Option Refusal)
+
+-- The text spells a path, for which one of the checks refuses the tree of the image.
+pub record FailsCheck (checks : Checks) (d : Disk) (text : List ℕ) (r : Refusal) : Type 0 where
   pub volume : Volume
   pub holds : Holds (reading_of d) volume
   pub sound : IsSound volume
   pub path : Path
   pub spelled : IsPathText text path
-  pub refused : first_refusal (reading_checks (tree volume) path) ≡ Some r
+  pub refused : first_refusal (checks (tree volume) path) ≡ Some r
 
--- why no contents are given: a text that spells no path, the first check that refuses, or want of memory
+-- why nothing is answered of a path: a text that spells none, the first check that refuses, or want of memory
+abbrev pub RefusesPath : Checks → Disk → List ℕ → Refusal → Type 0
+RefusesPath checks d text BadPath = IsNoPath text
+RefusesPath checks d text Memory = Unit {0}
+RefusesPath checks d text r = FailsCheck checks d text r
+
+-- why no contents are given
 abbrev pub RefusesContents : Disk → List ℕ → Refusal → Type 0
-RefusesContents d text BadPath = IsNoPath text
-RefusesContents d text Memory = Unit {0}
-RefusesContents d text r = HasNoFile d text r
+RefusesContents d text r = RefusesPath reading_checks d text r

@@ -1,5 +1,6 @@
 pub mod Contents
 pub mod Sent
+pub mod Listed
 pub mod Log
 pub mod Between
 pub mod Step
@@ -14,3 +15,4 @@ pub mod Runs
 pub mod Equations
 pub mod PackedListed
 pub mod TreeChanging
+pub mod TreeLaws

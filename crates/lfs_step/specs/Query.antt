@@ -8,7 +8,7 @@ use Rattle.lfs_command.specs.declared.refusal.Refusal.{Refusal}
 use Rattle.lfs_command.specs.declared.refusal.Refusal.TheVariants.{Memory}
 use Rattle.lfs_listing.specs.BlockMap.{block_map}
 use Rattle.lfs_listing.specs.BlockSums.{block_sums}
-use Rattle.lfs_listing.specs.Listing.{listing, shown_byte}
+use Rattle.lfs_listing.specs.Listing.{shown_byte}
 use Rattle.lfs_listing.specs.declared.unsent.Unsent.{Unsent}
 use Rattle.lfs_listing.specs.declared.unsent.Unsent.TheVariants as unsent
 use Rattle.lfs_request.specs.declared.fault.Fault.{Fault}
@@ -17,6 +17,7 @@ use Rattle.lfs_request.specs.Query.{Question}
 use Rattle.lfs_request.specs.declared.query.Query.TheVariants.{Check, Ls, Blocks, Cat}
 use Rattle.lfs_sink.specs.Send.{SendsBeginning}
 use Rattle.lfs_step.specs.Contents.{IsContents, RefusesContents}
+use Rattle.lfs_step.specs.Listed.{IsListing, RefusesListing}
 use Rattle.lfs_step.specs.Summary.{summary}
 
 -- which block holds what, or in place of that how many blocks each path takes
@@ -27,7 +28,7 @@ blocks_text false mounted = block_map shown_byte mounted.outline mounted.rows
 -- the text that answers a query of an image alone, which mounts
 abbrev pub IsAnswer : Question → Disk → List ℕ → Type 0
 IsAnswer Check disk text = (mounted : MountedValue) × IsMountOf disk mounted × (text ≡ summary disk mounted)
-IsAnswer Ls disk text = (mounted : MountedValue) × IsMountOf disk mounted × (text ≡ listing mounted.rows)
+IsAnswer (Ls path) disk text = IsListing disk path.now text
 IsAnswer (Blocks sums) disk text = (mounted : MountedValue) × IsMountOf disk mounted × (text ≡ blocks_text sums mounted)
 IsAnswer (Cat path) disk text = IsContents disk path.now text
 IsAnswer _ disk text = ⊥
@@ -36,9 +37,10 @@ IsAnswer _ disk text = ⊥
 abbrev pub HasMount : Disk → Type 0
 HasMount disk = (mounted : MountedValue) × IsMountOf disk mounted
 
--- why there is none: want of memory, or that the image mounts and has no file to be read
+-- why there is none: want of memory, or that the image mounts and has nothing at the path, or no file to be read
 abbrev pub RefusesAnswer : Question → Disk → Refusal → Type 0
 RefusesAnswer query disk Memory = Unit {0}
+RefusesAnswer (Ls path) disk refusal = HasMount disk × RefusesListing disk path.now refusal
 RefusesAnswer (Cat path) disk refusal = HasMount disk × RefusesContents disk path.now refusal
 RefusesAnswer _ disk refusal = ⊥
 
@@ -59,7 +61,7 @@ SendsSome query disk old new =
 abbrev pub SendsReport : Question → Disk → Option Fault → Option (List ℕ) → Option (List ℕ) → Type 0
 SendsReport query disk None old new = (text : List ℕ) × IsAnswer query disk text × Appends old new text
 SendsReport query disk (Some CannotWrite) old new = (text : List ℕ) × IsAnswer query disk text × SendsBeginning old new text
-SendsReport Ls disk (Some (Refused refusal)) old new = SendsSome Ls disk old new
+SendsReport (Ls path) disk (Some (Refused refusal)) old new = SendsSome (Ls path) disk old new
 SendsReport (Blocks sums) disk (Some (Refused refusal)) old new = SendsSome (Blocks sums) disk old new
 SendsReport query disk (Some fault) old new = Keeps old new
 

@@ -3,10 +3,12 @@
 ghost use Rattle.lfs_step.specs.Histories.{StepsLeaveHistories};
 ghost use Rattle.lfs_step.specs.PackedListed.{PackedImagesListTheirRows};
 ghost use Rattle.lfs_step.specs.Runs.{RunsGoOn};
+ghost use Rattle.lfs_step.specs.TreeLaws.{EqualTreesStay, TreesAreChanged};
 
-use lfs_change::changed_bytes_are_denoted;
-use lfs_fs::{images_mount_to_one_tree, paths_are_ordered, rows_are_unique};
+use lfs_change::{bytes_are_changed_together, changed_bytes_are_denoted};
+use lfs_fs::{images_mount_to_one_tree, paths_are_ordered, rows_are_unique, texts_spell_one_path};
 use lfs_history::saved_histories_open;
+use lfs_sync::{mounted_rows_are_held, texts_spell_their_commands};
 
 /// A law: the image and the journal that a step leaves denote the history to which it leads from the one that they denoted
 /// before. A new image begins one, empty or of rows, and so does one of which all else is forgotten; a question leaves the one that was
@@ -41,4 +43,22 @@ pub fn packed_images_list_their_rows()
     paths_are_ordered();
     rows_are_unique();
     images_mount_to_one_tree();
+}
+
+/// A law: on an image that mounts to a tree, an accepted change of a whole tree leaves an image that mounts to the tree that the change
+/// says (`said`). This is the tree without what was at the path, with a directory and its parents there, with a file and its parents, or
+/// with what a folder has. Where that is the tree which was there, the image stays byte for byte; but a file is put all the same
+/// (`equal`). Takes no memory.
+///
+/// Source: own.
+pub fn trees_are_changed_as_said()
+    ensures said { TreesAreChanged }
+    ensures equal { EqualTreesStay }
+{
+    texts_spell_one_path();
+    images_mount_to_one_tree();
+    paths_are_ordered();
+    mounted_rows_are_held();
+    texts_spell_their_commands();
+    bytes_are_changed_together();
 }

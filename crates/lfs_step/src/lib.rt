@@ -12,13 +12,16 @@ mod querying;
 mod recounting;
 mod running;
 mod sending;
+mod standing;
 mod step;
 mod summary;
 mod telling;
 mod tree_changing;
 
 pub use contents::send_file;
-pub use laws::{packed_images_list_their_rows, runs_go_on, steps_leave_histories};
+pub use laws::{
+    packed_images_list_their_rows, runs_go_on, steps_leave_histories, trees_are_changed_as_said,
+};
 pub use log::log_of;
 pub use running::run;
 pub use step::Step;

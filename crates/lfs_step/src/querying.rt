@@ -16,6 +16,7 @@ use crate::comparing::compare_bytes;
 use crate::contents::send_file;
 use crate::recounting::recount;
 use crate::sending::{fault_of_listing, sent_whole};
+use crate::standing::names_there;
 use crate::summary::summary;
 use lfs_block::Image;
 use lfs_fs::{Mounted, mount};
@@ -73,10 +74,10 @@ fn report<S: Sink>(
 {
     match query {
         Query::Check => say_summary(alloc, image, out),
-        Query::Ls => say_listing(alloc, image, out),
+        Query::Ls { path } => say_listing(alloc, image, path, place, out),
         Query::Blocks { sums } => say_blocks(alloc, image, sums, out),
         Query::Cat { path } => say_contents(alloc, image, path, place, out),
-        Query::Diff { other, size } => compare_bytes(alloc, image, size, other, out),
+        Query::Diff { other, size, quiet } => compare_bytes(alloc, image, size, other, quiet, out),
         Query::Log => recount(alloc, image, journal, out),
     }
 }
@@ -96,20 +97,51 @@ fn say_summary<S: Sink>(alloc: Global, image: &Image, out: &mut S) -> Result<(),
     sent_whole(send(out, line.as_bytes()))
 }
 
-/// Says what stands at each path of an image, row by row.
-fn say_listing<S: Sink>(alloc: Global, image: &Image, out: &mut S) -> Result<(), Fault>
+/// Says what stands at a path of an image and below, row by row. Where the path is refused the place is left.
+fn say_listing<S: Sink>(
+    alloc: Global,
+    image: &Image,
+    path: &[u8],
+    place: &mut Option<Place>,
+    out: &mut S,
+) -> Result<(), Fault>
     requires { S.failed out.old ≡ false }
-    ensures refused { IfErr result (λ fault. RefusesReport Ls image.now.disk fault) }
-    ensures sent { SendsReport Ls image.now.disk (result_err result) (S.sent out.old) (S.sent out.new) }
+    ensures refused { IfErr result (λ fault. RefusesReport (Ls path.entry) image.now.disk fault) }
+    ensures sent { SendsReport (Ls path.entry) image.now.disk (result_err result) (S.sent out.old) (S.sent out.new) }
     ensures failed { S.failed out.new ≡ blames_output (result_err result) }
     ensures kept { S.kept out.new ≡ S.kept out.old }
 {
     let mounted = mount(alloc, image)?;
-    let sent = send_listing(alloc, mounted.rows(), out);
+    let said = say_rows(alloc, image, &mounted, path, place, out);
     forget(mounted);
-    match sent {
-        Ok(()) => Ok(()),
-        Err(unsent) => Err(fault_of_listing(unsent)),
+    said
+}
+
+/// Says what stands at a path of an image that is mounted, and below.
+fn say_rows<S: Sink>(
+    alloc: Global,
+    image: &Image,
+    mounted: &Mounted,
+    path: &[u8],
+    place: &mut Option<Place>,
+    out: &mut S,
+) -> Result<(), Fault>
+    requires mounted { IsMountOf image.now.disk mounted.now }
+    requires works { S.failed out.old ≡ false }
+    ensures refused { IfErr result (λ fault. RefusesReport (Ls path.entry) image.now.disk fault) }
+    ensures sent { SendsReport (Ls path.entry) image.now.disk (result_err result) (S.sent out.old) (S.sent out.new) }
+    ensures failed { S.failed out.new ≡ blames_output (result_err result) }
+    ensures kept { S.kept out.new ≡ S.kept out.old }
+{
+    match names_there(alloc, image, mounted, path) {
+        Ok(names) => match send_listing(alloc, mounted.rows(), &names, out) {
+            Ok(()) => Ok(()),
+            Err(unsent) => Err(fault_of_listing(unsent)),
+        },
+        Err(refusal) => {
+            *place = Place::of(alloc, mounted.outline(), path, None);
+            Err(Fault::Refused(refusal))
+        }
     }
 }
 

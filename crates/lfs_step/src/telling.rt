@@ -48,8 +48,8 @@ fn tell_change(
     if !tell_line(text, number, done) {
         return Err(OpenFault::Mount(MountFault::Memory));
     }
-    match send_difference(alloc, first, second, Some(patch), text) {
-        Ok(()) => Ok(()),
+    match send_difference(alloc, first, second, Some(patch), Vec::new(alloc), text) {
+        Ok(_) => Ok(()),
         Err(_) => Err(OpenFault::Mount(MountFault::Memory)),
     }
 }

@@ -16,7 +16,7 @@ use Rattle.lfs_command.specs.Verdict.{is_directory}
 use Rattle.lfs_sync.specs.Merging.{IsMerged}
 use Rattle.lfs_sync.specs.Planned.{IsPlanOf, in_texts, plan_asked, planned_asked}
 use Rattle.lfs_sync.specs.Shown.{Shown}
-use Rattle.lfs_sync.specs.Sides.{names}
+use Rattle.lfs_listing.specs.Below.{names}
 use Rattle.lfs_sync.specs.SyncRows.{bytes_at}
 use Rattle.lfs_sync.specs.Synced.{goes, is_new_directory, is_new_file, lacking, made, make_commands, put_commands, removals}
 use Rattle.lfs_sync.specs.Synced.{remove_commands, sync_commands}

@@ -51,7 +51,7 @@ row_there (r ∷ rows) p x is = by (same_path r.path p) (same_path_decides r.pat
 
 -- ---- a folder's rows
 
-bare_node : (bytes : Option (List ℕ)) → IsBare (wanted_node bytes)
+pub bare_node : (bytes : Option (List ℕ)) → IsBare (wanted_node bytes)
 bare_node None = refl
 bare_node (Some bytes) = refl
 

@@ -9,7 +9,8 @@ use Rattle.lfs_fs.specs.RowShown.{shown_node}
 use Rattle.lfs_command.specs.PathMap.{below}
 use Rattle.lfs_listing.specs.Comparing.{AreWhole, IsWhole}
 use Rattle.lfs_sync.specs.Shown.{Shown, held_by, held_of}
-use Rattle.lfs_sync.specs.Sides.{CanBeRead, HoldsMore, held_all, held_shown, names}
+use Rattle.lfs_listing.specs.Below.{names}
+use Rattle.lfs_sync.specs.Sides.{CanBeRead, HoldsMore, held_all, held_shown}
 use Rattle.lfs_sync.specs.declared.held_row.HeldRow.{HeldRow}
 
 -- the row at hand, which is of this path then

@@ -9,7 +9,7 @@ use Rattle.lfs_fs.specs.Tree.{Node}
 use Rattle.lfs_command.specs.Command.{Command, Mkdir, on_paths}
 use Rattle.lfs_sync.specs.Merging.{Adds, if_so}
 use Rattle.lfs_sync.specs.Planned.{in_texts, plan_asked}
-use Rattle.lfs_sync.specs.Sides.{names}
+use Rattle.lfs_listing.specs.Below.{names}
 use Rattle.lfs_sync.specs.Synced.{lacking}
 use Rattle.lfs_sync.specs.declared.planned.Planned.{Planned}
 use Rattle.lfs_sync.specs.declared.sync_row.SyncRow.{SyncRow}

@@ -6,7 +6,6 @@ pub mod ParentLemmas
 pub mod HeldLemmas
 pub mod TextLemmas
 pub mod MergeLemmas
-pub mod BelowLemmas
 pub mod TakeLemmas
 pub mod PlanLemmas
 pub mod LackingLemmas
@@ -16,3 +15,6 @@ pub mod KindLemmas
 pub mod EndLemmas
 pub mod HoldLemmas
 pub mod FolderLemmas
+pub mod RowLemmas
+pub mod NamedLemmas
+pub mod SpelledLemmas

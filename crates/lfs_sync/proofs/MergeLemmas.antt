@@ -15,7 +15,8 @@ use Rattle.lfs_law.proofs.PathMapLemmas.{same_path_or_not}
 use Rattle.lfs_sync.specs.Merging.{Adds, IsUnderWay, PlansBoth, PlansHeld, PlansWanted, if_so}
 use Rattle.lfs_sync.specs.Planned.{in_texts, plan_asked}
 use Rattle.lfs_sync.specs.Shown.{Shown, ShownRise, shown_at}
-use Rattle.lfs_sync.specs.Sides.{first_order, held_all, names, wanted_all}
+use Rattle.lfs_listing.specs.Below.{names}
+use Rattle.lfs_sync.specs.Sides.{first_order, held_all, wanted_all}
 use Rattle.lfs_sync.specs.Synced.{comes, goes, is_dir, is_like, is_new_directory, is_new_file, making, removing, same_contents, same_kind}
 use Rattle.lfs_sync.specs.declared.held_row.HeldRow.{HeldRow}
 use Rattle.lfs_sync.specs.declared.merging.Merging.{Merging}

@@ -1,20 +1,21 @@
--- A path and its parents are made as directories.
-use Rattle.std.proofs.Common.{◌≡◌, Bool, true, false, List, [], ◌∷◌, ◌++◌, Option, Some, None, refl, ap, sym, ◌∙◌, subst, inl, inr}
+-- A path and its parents are made as directories, and a file is put with its parents.
+use Rattle.std.proofs.Common.{◌≡◌, ℕ, Bool, true, false, List, [], ◌∷◌, ◌++◌, Option, Some, None, refl, ap, sym, ◌∙◌, subst, inl, inr}
 use Rattle.std.proofs.Common.{append-nil, append_assoc}
 use Rattle.std.specs.Prelude.{bytes_eq, if◌then◌else◌, is_some, ◌&&◌}
 use Rattle.std.specs.List.{AllByRecursion}
 use Rattle.std.proofs.lemmas.Slice.Eq.{bytes_eq-Decides}
 use Rattle.lfs_meta.specs.Name.{Name}
 use Rattle.lfs_fs.specs.Path.{Path}
-use Rattle.lfs_fs.specs.Tree.{Node, Dir}
+use Rattle.lfs_fs.specs.Tree.{Node, Dir, File}
 use Rattle.lfs_fs.proofs.EntryAtLemmas.{by_last_name}
-use Rattle.lfs_command.specs.Command.{Command, Mkdir}
+use Rattle.lfs_command.specs.Command.{Command, Mkdir, Put}
+use Rattle.lfs_command.specs.Equation.{attributes_at}
 use Rattle.lfs_command.specs.PathMap.{below, same_path}
 use Rattle.lfs_command.specs.Verdict.{is_directory}
 use Rattle.lfs_law.proofs.Decided.{same_name_or_not}
 use Rattle.lfs_law.proofs.PathMapLemmas.{below_longer, below_some, same_path_decides}
-use Rattle.lfs_sync.specs.Synced.{equations, lacking, with_parents, with_parents_by}
-use Rattle.lfs_sync.specs.SyncLaws.{IsRooted, MadeIsWithParents}
+use Rattle.lfs_sync.specs.Synced.{equations, lacking, with_file, with_parents, with_parents_by}
+use Rattle.lfs_sync.specs.SyncLaws.{IsRooted, MadeIsWithParents, PutIsWithFile}
 use Rattle.lfs_sync.proofs.DoneLemmas.{IsSimple, below_behind, done_all, done_append, done_is, simple_append}
 use Rattle.lfs_sync.proofs.DoneLemmas.{other_below, other_front, other_itself, other_longer, other_outside, outside_longer, same_behind}
 use Rattle.lfs_sync.proofs.DoneLemmas.{same_itself}
@@ -173,6 +174,10 @@ root_stays : (tree : Path → Option Node) (to : Path) → is_directory (tree []
 root_stays tree [] top none = cc
 root_stays tree (n ∷ to) top none = kept_some (n ∷ to) (tree []) (some_directory (tree []) top)
 
+parent_is : (m : Name) (rest : Path) (here : Option Node) → parent_by (Some (m ∷ rest)) here here ≡ with_parents_by (Some (m ∷ rest)) here
+parent_is m rest None = refl
+parent_is m rest (Some x) = refl
+
 -- what the last command leaves, of what the others leave
 last_by_rest : (tree : Path → Option Node) (to : Path) (k : Name) (q : Path) (left : Option Path) → below (k ∷ q) to ≡ left → tree to ≡ None
     → done_all (k ∷ q) (Mkdir to ∷ []) (parent_by left (tree (k ∷ q)) (tree (k ∷ q))) ≡ with_parents_by left (tree (k ∷ q))
@@ -185,11 +190,7 @@ last_by_rest tree to k q (Some []) inside none =
 last_by_rest tree to k q (Some (m ∷ rest)) inside none =
     last_made to (k ∷ q) false (parent_by (Some (m ∷ rest)) (tree (k ∷ q)) (tree (k ∷ q)))
     (other_below to (k ∷ q) m rest (below_some (k ∷ q) to (m ∷ rest) inside))
-    ∙ parent_is (tree (k ∷ q))
-  where
-    parent_is : (here : Option Node) → parent_by (Some (m ∷ rest)) here here ≡ with_parents_by (Some (m ∷ rest)) here
-    parent_is None = refl
-    parent_is (Some x) = refl
+    ∙ parent_is m rest (tree (k ∷ q))
 
 none_there : (o : Option Node) → is_some o ≡ is_directory o → is_directory o ≡ false → o ≡ None
 none_there None same none = refl
@@ -218,3 +219,66 @@ module _ (tree : Path → Option Node) (to : Path) (top : is_directory (tree [])
 
 pub made_is_with_parents : MadeIsWithParents
 made_is_with_parents tree to top is whole path = made_by tree to top is whole (is_directory (tree to)) refl path
+
+-- where something is each of its parents is, and none is made
+pub none_lacks : (tree : Path → Option Node) → IsRooted tree → (front ns : Path) → is_some (tree (front ++ ns)) ≡ true
+    → lacking tree front ns ≡ []
+none_lacks tree is front [] there = refl
+none_lacks tree is front (n ∷ []) there = refl
+none_lacks tree is front (n ∷ m ∷ ns) there =
+    let first : Path = front ++ n ∷ [] in
+    let later : is_some (tree (first ++ m ∷ ns)) ≡ true =
+    ap (λ (p : Path). is_some (tree p)) (append_assoc front (n ∷ []) (m ∷ ns)) ∙ there in
+    ap (λ (b : Bool). if b then lacking tree first (m ∷ ns) else Mkdir first ∷ lacking tree first (m ∷ ns))
+    (rooted tree is first (m ∷ ns) later)
+    ∙ none_lacks tree is first (m ∷ ns) later
+
+-- ---- a file
+
+-- the file that is put, by whether it is put there
+abbrev file_by : Bool → Option Node → List ℕ → Option Node → Option Node
+file_by b here bytes old = if b then Some (File bytes (attributes_at here)) else old
+
+-- what is put, of what the others leave
+put_by_rest : (tree : Path → Option Node) (to : Path) (bytes : List ℕ) (path : Path) (left : Option Path) → below path to ≡ left
+    → done_all path (Put to bytes ∷ []) (parent_by left (tree path) (tree path))
+    ≡ file_by (same_path to path) (tree to) bytes (with_parents_by left (tree path))
+put_by_rest tree to bytes path None outside =
+    let other = other_front to path outside in
+    ap (λ (b : Bool). file_by b (tree path) bytes (tree path)) other ∙ sym (ap (λ (b : Bool). file_by b (tree to) bytes (tree path)) other)
+put_by_rest tree to bytes path (Some []) inside =
+    let is : to ≡ path = below_some path to [] inside ∙ append-nil path in
+    let same = (same_path_decides to path).1 is in
+    ap (λ (b : Bool). file_by b (tree path) bytes (tree path)) same
+    ∙ ap (λ (p : Path). Some (File bytes (attributes_at (tree p)))) (sym is)
+    ∙ sym (ap (λ (b : Bool). file_by b (tree to) bytes (with_parents_by (Some []) (tree path))) same)
+put_by_rest tree to bytes path (Some (m ∷ rest)) inside =
+    let other = other_below to path m rest (below_some path to (m ∷ rest) inside) in
+    let made : Option Node = parent_by (Some (m ∷ rest)) (tree path) (tree path) in
+    ap (λ (b : Bool). file_by b made bytes made) other
+    ∙ parent_is m rest (tree path)
+    ∙ sym (ap (λ (b : Bool). file_by b (tree to) bytes (with_parents_by (Some (m ∷ rest)) (tree path))) other)
+
+-- the root is there
+top_stays : (to : Path) (o : Option Node) → is_directory o ≡ true → o ≡ parent_by (Some to) o o
+top_stays to None top = cc
+top_stays [] (Some x) top = refl
+top_stays (m ∷ to) (Some x) top = refl
+
+module _ (tree : Path → Option Node) (to : Path) (bytes : List ℕ) (top : is_directory (tree []) ≡ true) where
+  put_simple : AllByRecursion IsSimple (lacking tree [] to ++ Put to bytes ∷ [])
+  put_simple = simple_append (lacking tree [] to) (Put to bytes ∷ []) (lacking_simple tree [] to) (tt, tt)
+
+  put_there : (path : Path) → done_all path (lacking tree [] to ++ Put to bytes ∷ []) (tree path) ≡ with_file to bytes tree path
+  put_there [] =
+      done_append [] (lacking tree [] to) (Put to bytes ∷ []) (tree [])
+      ∙ ap (done_all [] (Put to bytes ∷ [])) (lacking_itself tree [] to (tree []) ∙ top_stays to (tree []) top)
+      ∙ put_by_rest tree to bytes [] (Some to) refl
+  put_there (k ∷ q) =
+      done_append (k ∷ q) (lacking tree [] to) (Put to bytes ∷ []) (tree (k ∷ q))
+      ∙ ap (done_all (k ∷ q) (Put to bytes ∷ [])) (lacks_at tree [] to k q (tree (k ∷ q)))
+      ∙ put_by_rest tree to bytes (k ∷ q) (below (k ∷ q) to) refl
+
+pub put_is_with_file : PutIsWithFile
+put_is_with_file tree to bytes top path =
+    done_is (lacking tree [] to ++ Put to bytes ∷ []) (put_simple tree to bytes top) tree path ∙ put_there tree to bytes top path

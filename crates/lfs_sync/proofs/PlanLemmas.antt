@@ -8,7 +8,8 @@ use Rattle.lfs_command.specs.Command.{Asked, Command, Rm, on_paths}
 use Rattle.lfs_sync.specs.Merging.{Adds, KeepsPlaces, PlansBoth, PlansHeld, PlansWanted, if_so}
 use Rattle.lfs_sync.specs.Planned.{in_texts, plan_asked}
 use Rattle.lfs_sync.specs.Shown.{Shown}
-use Rattle.lfs_sync.specs.Sides.{held_all, held_shown, names}
+use Rattle.lfs_listing.specs.Below.{names}
+use Rattle.lfs_sync.specs.Sides.{held_all, held_shown}
 use Rattle.lfs_sync.specs.Synced.{is_dir, making, removing, same_contents, same_kind}
 use Rattle.lfs_sync.specs.declared.held_row.HeldRow.{HeldRow}
 use Rattle.lfs_sync.specs.declared.merging.Merging.{Merging}

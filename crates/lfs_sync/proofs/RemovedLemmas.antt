@@ -21,7 +21,7 @@ all_go (r ∷ rs) = ap (λ (l : List Shown). r ∷ l) (all_go rs)
 without_outside : (at path : Path) (tree : Path → Option Node) → below at path ≡ None → tree path ≡ without at tree path
 without_outside at path tree outside = ap (λ (o : Option Path). if is_some o then None else tree path) (sym outside)
 
-without_inside : (at rest : Path) (tree : Path → Option Node) → None ≡ without at tree (at ++ rest)
+pub without_inside : (at rest : Path) (tree : Path → Option Node) → None ≡ without at tree (at ++ rest)
 without_inside at rest tree = ap (λ (o : Option Path). if is_some o then None else tree (at ++ rest)) (sym (below-append at rest))
 
 none_left : (old : Option Node) → (if is_some old then None else old) ≡ None

@@ -12,8 +12,8 @@ use Rattle.lfs_fs.specs.Tree.{Node, File, Dir}
 use Rattle.lfs_command.specs.Equation.{attributes_at}
 use Rattle.lfs_command.specs.PathMap.{below, same_path}
 use Rattle.lfs_law.proofs.PathMapLemmas.{below-append, below_cases, same_path_decides}
-use Rattle.lfs_sync.specs.Shown.{Shown, ShownRise, shown_at}
-use Rattle.lfs_sync.specs.Synced.{comes, goes, is_dir, is_like, is_new_directory, is_new_file, made, making, making_node, removals}
+use Rattle.lfs_sync.specs.Shown.{AreHeld, IsBare, Shown, ShownRise, shown_at}
+use Rattle.lfs_sync.specs.Synced.{comes, equations, goes, is_dir, is_like, is_new_directory, is_new_file, made, making, making_node, removals}
 use Rattle.lfs_sync.specs.Synced.{removing, same_contents, same_kind, sync_commands, synced, synced_by, with_kept_at}
 use Rattle.lfs_sync.specs.SyncLaws.{EqualNeedsNothing, SyncedIsTheFolder}
 use Rattle.lfs_sync.proofs.DoneLemmas.{IsSimple, done_all, done_append, done_at, done_is, other_outside, same_behind, simple_append}
@@ -191,8 +191,11 @@ there order at rest held wanted rise rises bare =
     (shown_filter order (is_new_file held) rest wanted rises)
     ∙ kept old want bare
 
-pub synced_is_the_folder : PathsAreOrdered → SyncedIsTheFolder
-synced_is_the_folder order tree at held wanted are want path =
+-- the tree becomes what rows have that rise and have no attributes
+pub synced_by_rows : PathsAreOrdered → (tree : Path → Option Node) (at : Path) (held wanted : List Shown) → AreHeld tree at held
+    → ShownRise wanted → AllByRecursion (λ (r : Shown). IsBare r.node) wanted
+    → (path : Path) → equations (sync_commands at held wanted) tree path ≡ synced at wanted tree path
+synced_by_rows order tree at held wanted are rise bare path =
     done_is (sync_commands at held wanted) (sync_simple at held wanted) tree path
     ∙ elim (below_cases at path) [
       | inl outside ↦
@@ -204,9 +207,12 @@ synced_is_the_folder order tree at held wanted are want path =
     inside : (rest : Path) → done_all (at ++ rest) (sync_commands at held wanted) (tree (at ++ rest)) ≡ synced at wanted tree (at ++ rest)
     inside rest =
         ap (done_all (at ++ rest) (sync_commands at held wanted)) (sym (are.whole rest))
-        ∙ there order at rest held wanted are.rise want.rise (bare_at rest wanted want.bare)
+        ∙ there order at rest held wanted are.rise rise (bare_at rest wanted bare)
         ∙ ap (λ (o : Option Node). with_kept_at o (shown_at wanted rest)) (are.whole rest)
         ∙ ap (λ (o : Option Path). synced_by o wanted (tree (at ++ rest))) (sym (below-append at rest))
+
+pub synced_is_the_folder : PathsAreOrdered → SyncedIsTheFolder
+synced_is_the_folder order tree at held wanted are want path = synced_by_rows order tree at held wanted are want.rise want.bare path
 
 -- ---- what is equal
 
@@ -234,16 +240,19 @@ and_false : (b : Bool) → (b && false) ≡ false
 and_false true = refl
 and_false false = refl
 
-pub equal_needs_nothing : EqualNeedsNothing
-equal_needs_nothing tree at held wanted are want same =
+-- where the tree is what rows have, each at its path, there is no command
+pub equal_by_rows : (tree : Path → Option Node) (at : Path) (held wanted : List Shown) → AreHeld tree at held
+    → AllByRecursion (λ (r : Shown). shown_at wanted r.path ≡ Some r.node) wanted
+    → ((path : Path) → synced at wanted tree path ≡ tree path) → sync_commands at held wanted ≡ []
+equal_by_rows tree at held wanted are right same =
     ap (λ (l : List Shown). map (removing at) (reverse l) ++ (made (is_new_directory held) at wanted ++ made (is_new_file held) at wanted))
     (filter_none (goes wanted) held (each_weaker (λ (r : Shown). tree (at ++ r.path) ≡ Some r.node) (λ (r : Shown). goes wanted r ≡ false) none_goes held are.right))
     ∙ ap (λ (l : List Shown). map (making at) l ++ made (is_new_file held) at wanted)
     (filter_none (is_new_directory held) wanted (each_weaker P (λ (r : Shown). is_new_directory held r ≡ false)
-    (λ r at_path. ap (λ (b : Bool). is_dir r && b) (none_comes r at_path) ∙ and_false (is_dir r)) wanted want.right))
+    (λ r at_path. ap (λ (b : Bool). is_dir r && b) (none_comes r at_path) ∙ and_false (is_dir r)) wanted right))
     ∙ ap (λ (l : List Shown). map (making at) l)
     (filter_none (is_new_file held) wanted (each_weaker P (λ (r : Shown). is_new_file held r ≡ false)
-    (λ r at_path. ap (λ (b : Bool). not (is_dir r) && b) (none_comes r at_path) ∙ and_false (not (is_dir r))) wanted want.right))
+    (λ r at_path. ap (λ (b : Bool). not (is_dir r) && b) (none_comes r at_path) ∙ and_false (not (is_dir r))) wanted right))
   where
     P : Shown → Type 0
     P r = shown_at wanted r.path ≡ Some r.node
@@ -262,3 +271,6 @@ equal_needs_nothing tree at held wanted are want same =
         (ap (with_kept_at (shown_at held r.path)) (sym is)
         ∙ ap (λ (o : Option Node). with_kept_at o (shown_at wanted r.path)) (are.whole r.path)
         ∙ at_rest r.path ∙ sym (are.whole r.path))
+
+pub equal_needs_nothing : EqualNeedsNothing
+equal_needs_nothing tree at held wanted are want same = equal_by_rows tree at held wanted are want.right same

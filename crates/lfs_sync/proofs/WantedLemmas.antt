@@ -8,7 +8,8 @@ use Rattle.std.proofs.lemmas.Option.{slice_get-get_or}
 use Rattle.lfs_fs.specs.Path.{IsPathText, Path, TextsSpellOnePath}
 use Rattle.lfs_fs.specs.Tree.{Node}
 use Rattle.lfs_sync.specs.Shown.{Shown, wanted_node}
-use Rattle.lfs_sync.specs.Sides.{names, wanted_all, wanted_shown}
+use Rattle.lfs_listing.specs.Below.{names}
+use Rattle.lfs_sync.specs.Sides.{wanted_all, wanted_shown}
 use Rattle.lfs_sync.specs.SyncRows.{IsRowOf, AreRowsOf, SayFolder, bytes_at, row_bytes}
 use Rattle.lfs_sync.specs.declared.sync_row.SyncRow.{SyncRow}
 use Rattle.lfs_sync.specs.declared.wanted_row.WantedRow.{WantedRow}

@@ -1,13 +1,12 @@
 -- The rows of an image and of a folder, as the code has them side by side (own).
 use Rattle.std.specs.Prelude.{◌≡◌, List, [], ◌∷◌, ◌++◌, Option, Some, None, All, map}
-use Rattle.std.specs.Borrow.{Bor}
 use Rattle.std.specs.declared.cmp.Ordering.{Ordering}
 use Rattle.std.specs.declared.cmp.Ordering.TheVariants.{Less, Greater}
 use Rattle.lfs_block.specs.Disk.{Disk}
-use Rattle.lfs_meta.specs.Name.{Name}
 use Rattle.lfs_fs.specs.Listed.{Listed}
 use Rattle.lfs_fs.specs.Path.{Path}
 use Rattle.lfs_fs.specs.RowShown.{shown_node}
+use Rattle.lfs_listing.specs.Below.{names}
 use Rattle.lfs_listing.specs.Comparing.{IsWhole}
 use Rattle.lfs_listing.specs.Order.{path_order}
 use Rattle.lfs_sync.specs.Shown.{Shown, wanted_node}
@@ -15,10 +14,6 @@ use Rattle.lfs_sync.specs.SyncRows.{bytes_at}
 use Rattle.lfs_sync.specs.declared.held_row.HeldRow.{HeldRow}
 use Rattle.lfs_sync.specs.declared.sync_row.SyncRow.{SyncRow}
 use Rattle.lfs_sync.specs.declared.wanted_row.WantedRow.{WantedRow}
-
--- borrowed names
-abbrev pub names : List (Bor Name) → Path
-names ns = map (λ n. n.now) ns
 
 -- what a row of an image shows on its disk
 abbrev pub held_shown : Disk → HeldRow → Shown

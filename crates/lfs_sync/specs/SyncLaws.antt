@@ -1,5 +1,6 @@
 -- Laws of trees that become what a folder holds (own).
-use Rattle.std.specs.Prelude.{is_some, true, ◌≡◌, List, [], ◌∷◌, ◌++◌, Option, map}
+use Rattle.std.specs.Prelude.{is_some, true, ◌≡◌, ℕ, List, [], ◌∷◌, ◌++◌, All, Option, map}
+use Rattle.std.specs.List.{AllZip}
 use Rattle.lfs_block.specs.Disk.{Disk, IsDisk}
 use Rattle.lfs_meta.specs.Name.{Name}
 use Rattle.lfs_extract.specs.FolderRows.{AreFolderRows, PathRow}
@@ -7,9 +8,12 @@ use Rattle.lfs_fs.specs.Mounted.{IsMountOf, MountedValue}
 use Rattle.lfs_fs.specs.Path.{Path}
 use Rattle.lfs_fs.specs.Tree.{Node, tree}
 use Rattle.lfs_fs.specs.Volume.{Volume}
+use Rattle.lfs_command.specs.Command.{Command, HasNames, Spells}
 use Rattle.lfs_command.specs.Verdict.{is_directory}
+use Rattle.lfs_sync.specs.Planned.{in_texts}
 use Rattle.lfs_sync.specs.Shown.{AreHeld, AreWanted, Shown, held_of, wanted_of}
-use Rattle.lfs_sync.specs.Synced.{equations, make_commands, remove_commands, sync_commands, synced, with_parents, without}
+use Rattle.lfs_sync.specs.Synced.{equations, make_commands, put_commands, remove_commands, sync_commands, synced, with_file, with_parents}
+use Rattle.lfs_sync.specs.Synced.{without}
 
 -- the law: the commands' equations, one after another, make the tree with what the rows say at and below the path
 abbrev pub SyncedIsTheFolder : Type 0
@@ -34,6 +38,16 @@ IsRooted tree = (p : Path) (n : Name) → is_some (tree (p ++ n ∷ [])) ≡ tru
 abbrev pub MadeIsWithParents : Type 0
 MadeIsWithParents = (tree : Path → Option Node) (to : Path) → is_directory (tree []) ≡ true → IsRooted tree
     → is_some (tree to) ≡ is_directory (tree to) → (path : Path) → equations (make_commands tree to) tree path ≡ with_parents to tree path
+
+-- the law: a file is at the path with the bytes, and its parents are directories
+abbrev pub PutIsWithFile : Type 0
+PutIsWithFile = (tree : Path → Option Node) (to : Path) (bytes : List ℕ) → is_directory (tree []) ≡ true
+    → (path : Path) → equations (put_commands tree to bytes) tree path ≡ with_file to bytes tree path
+
+-- the law: the texts of commands whose paths are made of names spell these commands alone
+abbrev pub TextsSpellTheirCommands : Type 0
+TextsSpellTheirCommands = (commands others : List Command) → All HasNames commands → AllZip Spells (in_texts commands) others
+    → others ≡ commands
 
 -- the law: a volume's tree has a directory at its root, and each other path in a directory
 abbrev pub TreesAreRooted : Type 0

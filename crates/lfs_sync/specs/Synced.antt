@@ -5,8 +5,8 @@ use Rattle.std.specs.List.{filter}
 use Rattle.lfs_fs.specs.Path.{Path}
 use Rattle.lfs_fs.specs.Tree.{Node, File, Dir}
 use Rattle.lfs_command.specs.Command.{Command, Mkdir, Put, Rm}
-use Rattle.lfs_command.specs.Equation.{equation}
-use Rattle.lfs_command.specs.PathMap.{below}
+use Rattle.lfs_command.specs.Equation.{attributes_at, equation}
+use Rattle.lfs_command.specs.PathMap.{below, put_at_path}
 use Rattle.lfs_command.specs.Verdict.{is_directory}
 use Rattle.lfs_sync.specs.Shown.{Shown, shown_at}
 
@@ -138,3 +138,7 @@ with_parents_by (Some rest) None = Some (Dir [])
 
 abbrev pub with_parents : Path → (Path → Option Node) → Path → Option Node
 with_parents to tree path = with_parents_by (below path to) (tree path)
+
+-- with a file at the path, which keeps the attributes of what was there, and its parents as directories, where nothing was
+abbrev pub with_file : Path → List ℕ → (Path → Option Node) → Path → Option Node
+with_file to bytes tree = put_at_path to (Some (File bytes (attributes_at (tree to)))) (with_parents to tree)

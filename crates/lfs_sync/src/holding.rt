@@ -6,27 +6,13 @@ ghost use Rattle.lfs_command.specs.PathMap.{below};
 ghost use Rattle.lfs_fs.specs.Listed.{rows_listed};
 ghost use Rattle.lfs_listing.specs.Comparing.{AreWhole};
 ghost use Rattle.lfs_sync.specs.Shown.{held_of};
-ghost use Rattle.lfs_sync.specs.Sides.{CanBeRead, HoldsMore, held_all, names};
+ghost use Rattle.lfs_listing.specs.Below.{names};
+ghost use Rattle.lfs_sync.specs.Sides.{CanBeRead, HoldsMore, held_all};
 
 use crate::held_row::HeldRow;
 use lfs_fs::{Row, Rows};
-use lfs_listing::follow_row;
+use lfs_listing::{follow_row, is_below};
 use std::alloc::{AllocError, Global};
-
-/// Whether a path is another or lies below it. Takes no memory.
-fn is_below(path: &[&[u8]], at: &[&[u8]]) -> bool
-    ensures { result ≡ is_some (below (names at.now) (names path.now)) }
-{
-    'each: for (index, name) in at.iter().enumerate() {
-        let Some(other) = path.get(index) else {
-            return false;
-        };
-        if name != other {
-            return false;
-        }
-    }
-    true
-}
 
 /// What is left of a path behind another. The caller owes that it lies there.
 fn rest_of<'a>(alloc: Global, path: &[&'a [u8]], at: &[&[u8]]) -> Result<Vec<&'a [u8]>, AllocError>

@@ -1,9 +1,9 @@
 //! Laws of whole trees in one change: each function does nothing but call laws, and its contract is the law.
 
-ghost use Rattle.lfs_sync.specs.SyncLaws.{EqualNeedsNothing, FoldersAreWanted, MadeIsWithParents, RemovedIsWithout, RowsAreHeld};
-ghost use Rattle.lfs_sync.specs.SyncLaws.{SyncedIsTheFolder, TreesAreRooted};
+ghost use Rattle.lfs_sync.specs.SyncLaws.{EqualNeedsNothing, FoldersAreWanted, MadeIsWithParents, PutIsWithFile, RemovedIsWithout};
+ghost use Rattle.lfs_sync.specs.SyncLaws.{RowsAreHeld, SyncedIsTheFolder, TextsSpellTheirCommands, TreesAreRooted};
 
-use lfs_fs::{paths_are_ordered, rows_show_the_tree};
+use lfs_fs::{paths_are_ordered, rows_show_the_tree, texts_spell_one_path};
 
 /// A law: the commands by which a part of a tree becomes a folder make the tree with what the folder has there, and attributes stay
 /// where the kind does. Where both show the same, attributes aside, there is no command. Takes no memory.
@@ -40,6 +40,23 @@ pub fn directories_are_made_with_parents()
     ensures made { MadeIsWithParents }
     ensures rooted { TreesAreRooted }
 {}
+
+/// A law: the commands by which a file is put with its parents leave the file at its path, a directory at each front of it where
+/// nothing was, and all else as it was. Takes no memory.
+///
+/// Source: own.
+pub fn files_are_put_with_parents()
+    ensures { PutIsWithFile }
+{}
+
+/// A law: the texts of commands whose paths are made of names spell these commands, and no others. Takes no memory.
+///
+/// Source: own.
+pub fn texts_spell_their_commands()
+    ensures { TextsSpellTheirCommands }
+{
+    texts_spell_one_path();
+}
 
 /// A law: the rows of a host's folder, as it is read, are those that a part of a tree becomes. Takes no memory.
 ///

@@ -22,8 +22,8 @@ pub use commanding::commands_of;
 pub use comparing::same_contents;
 pub use folder::sync_rows;
 pub use laws::{
-    directories_are_made_with_parents, folders_are_wanted, mounted_rows_are_held,
-    parts_are_removed, parts_become_folders,
+    directories_are_made_with_parents, files_are_put_with_parents, folders_are_wanted,
+    mounted_rows_are_held, parts_are_removed, parts_become_folders, texts_spell_their_commands,
 };
 pub use making::{make_plan, put_plan};
 pub use planned::{Planned, PlannedKind};

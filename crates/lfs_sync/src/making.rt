@@ -10,7 +10,7 @@ ghost use Rattle.lfs_fs.specs.Tree.{tree};
 ghost use Rattle.lfs_command.specs.Command.{Mkdir};
 ghost use Rattle.lfs_sync.specs.Merging.{if_so};
 ghost use Rattle.lfs_sync.specs.Planned.{IsPlanOf, in_texts, kind_asked, plan_asked};
-ghost use Rattle.lfs_sync.specs.Sides.{names};
+ghost use Rattle.lfs_listing.specs.Below.{names};
 ghost use Rattle.lfs_sync.specs.SyncRows.{bytes_at};
 ghost use Rattle.lfs_sync.specs.Synced.{lacking, make_commands, put_commands};
 ghost use Rattle.lfs_sync.specs.declared.planned.PlannedKind.TheVariants as kind;

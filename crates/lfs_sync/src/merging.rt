@@ -33,7 +33,8 @@ impl Merging {
     ghost use Rattle.lfs_block.specs.Disk.{Disk};
     ghost use Rattle.lfs_listing.specs.Comparing.{IsWhole};
     ghost use Rattle.lfs_sync.specs.Merging.{GoesOn, KeepsPlaces, PlansBoth, PlansHeld, PlansWanted, held_left, left, wanted_left};
-    ghost use Rattle.lfs_sync.specs.Sides.{CanBeRead, first_order, held_shown, names, wanted_shown};
+    ghost use Rattle.lfs_listing.specs.Below.{names};
+    ghost use Rattle.lfs_sync.specs.Sides.{CanBeRead, first_order, held_shown, wanted_shown};
     ghost use Rattle.lfs_sync.specs.declared.held_row.HeldRow.{HeldRow};
     ghost use Rattle.lfs_sync.specs.declared.sync_row.SyncRow.{SyncRow};
     ghost use Rattle.lfs_sync.specs.declared.wanted_row.WantedRow.{WantedRow};

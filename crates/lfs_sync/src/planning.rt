@@ -3,7 +3,7 @@
 ghost use Rattle.std.specs.Prelude.{◌≡◌, ◌++◌, ◌∷◌, [], List, IfOk};
 ghost use Rattle.lfs_fs.specs.Path.{path_text};
 ghost use Rattle.lfs_sync.specs.Planned.{kind_asked, plan_asked, planned_asked};
-ghost use Rattle.lfs_sync.specs.Sides.{names};
+ghost use Rattle.lfs_listing.specs.Below.{names};
 ghost use Rattle.lfs_sync.specs.declared.sync_row.SyncRow.{SyncRow};
 
 use crate::planned::{Planned, PlannedKind};

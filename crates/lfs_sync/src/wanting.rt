@@ -3,7 +3,8 @@
 ghost use Rattle.std.specs.Prelude.{◌≡◌, List, IfOk};
 ghost use Rattle.lfs_fs.specs.Path.{IsPathText, Path};
 ghost use Rattle.lfs_sync.specs.Shown.{Shown};
-ghost use Rattle.lfs_sync.specs.Sides.{names, wanted_all};
+ghost use Rattle.lfs_listing.specs.Below.{names};
+ghost use Rattle.lfs_sync.specs.Sides.{wanted_all};
 ghost use Rattle.lfs_sync.specs.SyncRows.{AreRowsOf, SayFolder};
 
 use crate::sync_row::SyncRow;

@@ -191,11 +191,11 @@ IsKept number rows = HasNumberIfSaid rows keep number
 -- the query that a name and its options say, where another image has blocks of this size
 abbrev pub IsQuery : Query (Bor (List ℕ)) → Text → List Row → ℕ → Type 0
 IsQuery Check name rows other = name ≡ codes "check"
-IsQuery Ls name rows other = name ≡ codes "ls"
+IsQuery (Ls path) name rows other = (name ≡ codes "ls") × HasPathOrRoot rows path.now
 IsQuery (Blocks sums) name rows other = (name ≡ codes "blocks") × (sums ≡ is_flagged (codes "sum") rows)
 IsQuery (Cat path) name rows other = (name ≡ codes "cat") × HasText rows (codes "path") path.now
-IsQuery (Diff name_of_other size) name rows other =
-    (name ≡ codes "diff") × HasText rows (codes "other") name_of_other.now × (size ≡ other)
+IsQuery (Diff name_of_other size quiet) name rows other =
+    (name ≡ codes "diff") × HasText rows (codes "other") name_of_other.now × (size ≡ other) × (quiet ≡ is_flagged (codes "quiet") rows)
 IsQuery Log name rows other = name ≡ codes "log"
 
 -- the task that a name and its options ask for on an image of this block size, where another image has blocks of the second one

@@ -32,7 +32,9 @@ fn question_of<'a>(
 {
     match name {
         "check" => Ok(Query::Check),
-        "ls" => Ok(Query::Ls),
+        "ls" => Ok(Query::Ls {
+            path: path_or_root(options),
+        }),
         "blocks" => Ok(Query::Blocks {
             sums: said(options, "sum"),
         }),
@@ -42,6 +44,7 @@ fn question_of<'a>(
         "diff" => Ok(Query::Diff {
             other: text(options, "other")?,
             size: other,
+            quiet: said(options, "quiet"),
         }),
         "log" => Ok(Query::Log),
         _ => Err(Misuse::Unsaid),

@@ -1,6 +1,6 @@
 use Rattle.std.proofs.Common.{◌≡◌, false, map}
 use Rattle.lfs_fs.specs.Listed.{rows_after, rows_listed}
-use Rattle.lfs_listing.specs.Listing.{listing}
+use Rattle.lfs_listing.specs.Below.{listing_at, names}
 use Rattle.lfs_listing.proofs.BufferLemmas.{IsUnderWay}
 use Rattle.lfs_listing.proofs.sending.send_listing.Given as goal
 
@@ -8,7 +8,7 @@ use Rattle.lfs_listing.proofs.sending.send_listing.Given as goal
 abbrev pub invariant-loop-row : goal.invariant-loop-row
 invariant-loop-row g l = record {
   under_way : IsUnderWay (g.S.Sink.sent l.initial.out) (g.S.Sink.sent l.out) l.text.items
-      (listing (rows_after (map (λ n. n.now) l.path.items) l.row-iterator)) (listing (rows_listed l.fn.rows));
+      (listing_at (names l.fn.at) (rows_after (map (λ n. n.now) l.path.items) l.row-iterator)) (listing_at (names l.fn.at) (rows_listed l.fn.rows));
   works : g.S.Sink.failed l.out ≡ false;
   kept : g.S.Sink.kept l.out ≡ g.S.Sink.kept l.initial.out;
 }

@@ -1,4 +1,4 @@
-use Rattle.std.proofs.Common.{rules, ◌≡◌, Some, None, refl, ap, subst, ◌∙◌, string_bytes}
+use Rattle.std.proofs.Common.{rules, ◌≡◌, Some, None, inl, inr, refl, ap, subst, ◌∙◌, string_bytes}
 use Rattle.std.proofs.lemmas.Result.{err_from_is_err_and}
 use Rattle.lfs_command.specs.declared.refusal.Refusal.TheVariants.{Memory}
 use Rattle.lfs_request.specs.declared.fault.Fault.TheVariants.{Refused}
@@ -10,7 +10,7 @@ use Rattle.lfs_exchange.specs.declared.step_kind.StepKind.{StepKind}
 use Rattle.lfs_host.specs.Scene.{Scene}
 use Rattle.lfs_serve.specs.Later.{later_read, refused_by}
 use Rattle.lfs_serve.specs.Program.{RunsStep}
-use Rattle.lfs_serve.proofs.StepLemmas.{ends_behind, ends_later, ends_refused, ends_wanting, leaves_at, spares_at, step_ran, stopped_at, refused_so}
+use Rattle.lfs_serve.proofs.StepLemmas.{ends_behind, ends_later, ends_refused, ends_unhanded, ends_wanting, leaves_at, spares_at, step_ran, stopped_at, refused_so}
 use Rattle.lfs_report.specs.Stop.{stopped_by}
 use Rattle.lfs_serve.proofs.stepping.stepped_in.Goals as goal
 
@@ -67,7 +67,7 @@ returns-in_err-stored-in-Ok-clause-ended g c =
     let spares = spares_at fault c.args.handed.kind (kind_of step) by_stored.has_refused_place old.files by_taken.files by_stored.files name target
     c.as_str.result.now outcome c.in-Ok.outcome c.requires.target (search rules) files c.requires.kind c.in-Ok.ensures.ran.4
     c.in_err-stored-in-Ok.ensures.files in
-    ends_behind step manner size name old by_stored _ fault outcome (search rules) c.in_err-stored-in-Ok.ensures.refused runs spares
+    ends_behind step manner size name old by_stored _ fault outcome None refl (search rules) c.in_err-stored-in-Ok.ensures.refused runs spares
 
 pub returns-in-Ok-clause-ended : goal.returns-in-Ok-clause-ended
 returns-in-Ok-clause-ended g c =
@@ -111,15 +111,22 @@ returns-clause-ended g c =
     let none : refused_by manner (later_read step size h.image) ≡ None =
     refused_so manner (later_read step size) c.deref.result.now h.image (stopped_by c.pass_step.result) None c.deref.ensures.value
     c.pass_step.ensures (ap stopped_by c.in_ok-pass_step.was) in
-    let by_looked : Scene = g.H.Known.known c.with_new_image.new.host in
+    let by_looked : Scene = g.H.Known.known c.stopped.new.host in
     let fault = c.in-Err.stop.fault in
-    let looked = c.with_new_image.ensures.kept.0 in
+    let looked = c.stopped.ensures.kept.0 in
     let outcome = c.in-Err.ensures.ran.0 in
     let runs : RunsStep step manner size name old by_looked (Some fault) outcome =
     step_ran step manner size name old by_looked h c.in_ok-image.image.items (Some fault) by_taken.printed outcome is none
-    c.in_ok-image.ensures.read c.in-Err.ensures.ran.1 c.in-Err.ensures.ran.2 c.in-Err.ensures.ran.3 looked.2 (c.with_new_image.ensures.blamed c.in-Err.ensures.blamed) in
-    ends_refused step manner size name old by_looked (Some c.with_new_image.result.fault) fault outcome (ap Some c.with_new_image.ensures.fault) runs
-    (looked.0 ∙ c.taken.ensures.kept.0)
+    c.in_ok-image.ensures.read c.in-Err.ensures.ran.1 c.in-Err.ensures.ran.2 c.in-Err.ensures.ran.3 looked.2 (c.stopped.ensures.blamed c.in-Err.ensures.blamed) in
+    let files = looked.0 ∙ c.taken.ensures.kept.0 in
+    elim c.stopped.ensures.ended [
+      | inl same ↦
+          ends_refused step manner size name old by_looked (Some c.stopped.result.fault) fault outcome (ap Some same.0) runs files
+          (λ differs. subst (λ (kind : StepKind). HandsOn kind by_looked) c.requires.kind (same.1 differs))
+      | inr refused ↦
+          ends_unhanded step manner size name old by_looked c.args.handed.kind c.stopped.result.fault fault outcome c.requires.kind refused.0
+          refused.1 refused.2 refused.3 runs files
+    ]
 
 pub returns-in_err-stored-in-Ok-clause-typed : goal.returns-in_err-stored-in-Ok-clause-typed
 returns-in_err-stored-in-Ok-clause-typed g c = c.stored.ensures.kept.0 ∙ c.taken.ensures.kept.1
@@ -134,7 +141,7 @@ pub returns-in-Ok-clause-made : goal.returns-in-Ok-clause-made
 returns-in-Ok-clause-made g c = c.stored.ensures.kept.2.0 ∙ c.taken.ensures.kept.2.0
 
 pub returns-clause-typed : goal.returns-clause-typed
-returns-clause-typed g c = c.with_new_image.ensures.kept.0.1 ∙ c.taken.ensures.kept.1
+returns-clause-typed g c = c.stopped.ensures.kept.0.1 ∙ c.taken.ensures.kept.1
 
 pub returns-clause-made : goal.returns-clause-made
-returns-clause-made g c = c.with_new_image.ensures.kept.2 ∙ c.taken.ensures.kept.2.0
+returns-clause-made g c = c.stopped.ensures.kept.2 ∙ c.taken.ensures.kept.2.0

@@ -14,6 +14,6 @@ returns-in-Ok-clause-refused g c =
 
 pub returns-in-Ok-clause-sent : goal.returns-in-Ok-clause-sent
 returns-in-Ok-clause-sent g c =
-    compared_sent c.args.image.now.disk c.in-Ok.other.disk c.args.size c.args.others.items (result_err c.compare.result)
+    compared_sent c.args.quiet c.args.image.now.disk c.in-Ok.other.disk c.args.size c.args.others.items (result_err c.compare.result)
     (g.S.Sink.sent c.args.out.now) (g.S.Sink.sent c.compare.new.out) c.in-Ok.ensures.disk c.in-Ok.ensures.size c.in-Ok.ensures.bytes
     c.compare.ensures.sent

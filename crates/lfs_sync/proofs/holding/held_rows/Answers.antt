@@ -4,7 +4,8 @@ use Rattle.lfs_fs.specs.Listed.{rows_listed}
 use Rattle.lfs_fs.specs.Path.{Path}
 use Rattle.lfs_command.specs.PathMap.{below}
 use Rattle.lfs_sync.specs.Shown.{held_of}
-use Rattle.lfs_sync.specs.Sides.{HoldsMore, names}
+use Rattle.lfs_listing.specs.Below.{names}
+use Rattle.lfs_sync.specs.Sides.{HoldsMore}
 use Rattle.lfs_sync.proofs.HoldLemmas.{shown_now, whole_now}
 use Rattle.lfs_sync.proofs.holding.held_rows.Goals as goal
 

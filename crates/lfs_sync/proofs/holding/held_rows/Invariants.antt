@@ -3,7 +3,8 @@ use Rattle.lfs_block.specs.Disk.{Disk}
 use Rattle.lfs_fs.specs.Listed.{rows_after, rows_listed}
 use Rattle.lfs_listing.specs.Comparing.{AreWhole}
 use Rattle.lfs_sync.specs.Shown.{held_of}
-use Rattle.lfs_sync.specs.Sides.{CanBeRead, held_all, names}
+use Rattle.lfs_listing.specs.Below.{names}
+use Rattle.lfs_sync.specs.Sides.{CanBeRead, held_all}
 use Rattle.lfs_sync.proofs.holding.held_rows.Given as goal
 
 -- those so far, and those of what is left; and all can be read, if the image's can

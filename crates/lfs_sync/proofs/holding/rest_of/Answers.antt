@@ -3,8 +3,8 @@ use Rattle.std.proofs.lemmas.List.{length-map}
 use Rattle.std.proofs.lemmas.Result.{IfOk-weaker}
 use Rattle.lfs_meta.specs.Name.{Name}
 use Rattle.lfs_fs.specs.Path.{Path}
-use Rattle.lfs_sync.specs.Sides.{names}
-use Rattle.lfs_sync.proofs.BelowLemmas.{below_long, below_rest, read}
+use Rattle.lfs_listing.specs.Below.{names}
+use Rattle.lfs_listing.proofs.BelowLemmas.{below_long, below_rest, read}
 use Rattle.lfs_sync.proofs.holding.rest_of.Goals as goal
 
 pub returns : goal.returns

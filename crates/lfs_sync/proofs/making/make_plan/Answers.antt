@@ -6,7 +6,7 @@ use Rattle.lfs_fs.specs.Tree.{tree}
 use Rattle.lfs_command.specs.Command.{Mkdir}
 use Rattle.lfs_command.specs.Verdict.{is_directory}
 use Rattle.lfs_sync.specs.Planned.{IsPlanOf, in_texts, plan_asked}
-use Rattle.lfs_sync.specs.Sides.{names}
+use Rattle.lfs_listing.specs.Below.{names}
 use Rattle.lfs_sync.specs.Synced.{lacking, make_commands}
 use Rattle.lfs_sync.specs.declared.planned.Planned.{Planned}
 use Rattle.lfs_sync.specs.declared.planned.PlannedKind.TheVariants as kind

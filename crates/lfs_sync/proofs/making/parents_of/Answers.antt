@@ -7,7 +7,7 @@ use Rattle.lfs_fs.specs.Tree.{tree}
 use Rattle.lfs_command.specs.Command.{Mkdir}
 use Rattle.lfs_sync.specs.Merging.{Adds, if_so}
 use Rattle.lfs_sync.specs.Planned.{in_texts, plan_asked}
-use Rattle.lfs_sync.specs.Sides.{names}
+use Rattle.lfs_listing.specs.Below.{names}
 use Rattle.lfs_sync.specs.Synced.{lacking}
 use Rattle.lfs_sync.specs.declared.planned.Planned.{Planned}
 use Rattle.lfs_sync.proofs.LackingLemmas.{names_long, parent_further, parents_end}

@@ -1,7 +1,7 @@
 use Rattle.std.proofs.Common.{◌≡◌, ◌++◌, ◌-◌, List, [], drop, take}
 use Rattle.lfs_fs.specs.Tree.{tree}
 use Rattle.lfs_sync.specs.Planned.{in_texts, plan_asked}
-use Rattle.lfs_sync.specs.Sides.{names}
+use Rattle.lfs_listing.specs.Below.{names}
 use Rattle.lfs_sync.specs.Synced.{lacking}
 use Rattle.lfs_sync.specs.declared.sync_row.SyncRow.{SyncRow}
 use Rattle.lfs_sync.proofs.making.parents_of.Given as goal

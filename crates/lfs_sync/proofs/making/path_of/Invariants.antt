@@ -1,5 +1,5 @@
 use Rattle.std.proofs.Common.{◌≡◌, map, take}
-use Rattle.lfs_sync.specs.Sides.{names}
+use Rattle.lfs_listing.specs.Below.{names}
 use Rattle.lfs_sync.proofs.making.path_of.Given as goal
 
 -- the names so far

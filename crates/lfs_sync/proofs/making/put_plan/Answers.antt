@@ -6,7 +6,7 @@ use Rattle.lfs_fs.specs.Path.{path_text}
 use Rattle.lfs_fs.specs.Tree.{tree}
 use Rattle.lfs_command.specs.Command.{Put}
 use Rattle.lfs_sync.specs.Planned.{in_texts, plan_asked}
-use Rattle.lfs_sync.specs.Sides.{names}
+use Rattle.lfs_listing.specs.Below.{names}
 use Rattle.lfs_sync.specs.SyncRows.{bytes_at}
 use Rattle.lfs_sync.specs.Synced.{lacking}
 use Rattle.lfs_sync.proofs.EndLemmas.{put_some, spelled_is}

@@ -3,7 +3,8 @@ use Rattle.lfs_meta.specs.Name.{Name}
 use Rattle.lfs_fs.specs.Path.{Path, path_text}
 use Rattle.lfs_command.specs.Command.{Asked, Rm}
 use Rattle.lfs_sync.specs.Planned.{in_texts, planned_asked}
-use Rattle.lfs_sync.specs.Sides.{held_all, names}
+use Rattle.lfs_listing.specs.Below.{names}
+use Rattle.lfs_sync.specs.Sides.{held_all}
 use Rattle.lfs_sync.specs.Synced.{removing}
 use Rattle.lfs_sync.specs.declared.held_row.HeldRow.{HeldRow}
 use Rattle.lfs_sync.proofs.PlanLemmas.{one_more, removed_more}

@@ -1,7 +1,8 @@
 use Rattle.std.proofs.Common.{◌≡◌, List, map, take}
 use Rattle.lfs_block.specs.Disk.{Disk}
 use Rattle.lfs_sync.specs.Planned.{in_texts, plan_asked}
-use Rattle.lfs_sync.specs.Sides.{held_all, names}
+use Rattle.lfs_listing.specs.Below.{names}
+use Rattle.lfs_sync.specs.Sides.{held_all}
 use Rattle.lfs_sync.specs.Synced.{removing}
 use Rattle.lfs_sync.specs.declared.sync_row.SyncRow.{SyncRow}
 use Rattle.lfs_sync.proofs.removing.removals_of.Given as goal

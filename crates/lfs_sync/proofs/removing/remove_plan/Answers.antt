@@ -7,7 +7,8 @@ use Rattle.lfs_fs.specs.Path.{Path}
 use Rattle.lfs_fs.specs.Row.{Row}
 use Rattle.lfs_sync.specs.Planned.{in_texts, plan_asked}
 use Rattle.lfs_sync.specs.Shown.{held_of}
-use Rattle.lfs_sync.specs.Sides.{held_all, held_shown, names}
+use Rattle.lfs_listing.specs.Below.{names}
+use Rattle.lfs_sync.specs.Sides.{held_all, held_shown}
 use Rattle.lfs_sync.specs.Synced.{removals}
 use Rattle.lfs_sync.specs.declared.held_row.HeldRow.{HeldRow}
 use Rattle.lfs_sync.proofs.EndLemmas.{remove_all, some_mapped, spelled_is}

@@ -1,5 +1,5 @@
 use Rattle.lfs_sync.specs.Merging.{MergesTo, left}
-use Rattle.lfs_sync.specs.Sides.{names}
+use Rattle.lfs_listing.specs.Below.{names}
 use Rattle.lfs_sync.proofs.syncing.merged.Given as goal
 
 -- what is planned so far, and of what is left, is what is planned of all

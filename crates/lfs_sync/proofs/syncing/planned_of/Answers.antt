@@ -1,5 +1,6 @@
 use Rattle.std.proofs.lemmas.Result.{IfOk-weaker}
-use Rattle.lfs_sync.specs.Sides.{held_all, names, wanted_all}
+use Rattle.lfs_listing.specs.Below.{names}
+use Rattle.lfs_sync.specs.Sides.{held_all, wanted_all}
 use Rattle.lfs_sync.proofs.EndLemmas.{sync_joined}
 use Rattle.lfs_sync.proofs.syncing.planned_of.Goals as goal
 

@@ -9,7 +9,8 @@ use Rattle.lfs_listing.specs.Comparing.{AreWhole}
 use Rattle.lfs_listing.proofs.WholeLemmas.{rows_are_whole}
 use Rattle.lfs_sync.specs.Planned.{in_texts, plan_asked}
 use Rattle.lfs_sync.specs.Shown.{Shown, ShownRise, held_of}
-use Rattle.lfs_sync.specs.Sides.{CanBeRead, held_all, names, wanted_all}
+use Rattle.lfs_listing.specs.Below.{names}
+use Rattle.lfs_sync.specs.Sides.{CanBeRead, held_all, wanted_all}
 use Rattle.lfs_sync.specs.Synced.{sync_commands}
 use Rattle.lfs_sync.specs.declared.held_row.HeldRow.{HeldRow}
 use Rattle.lfs_sync.specs.declared.wanted_row.WantedRow.{WantedRow}

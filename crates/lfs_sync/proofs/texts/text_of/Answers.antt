@@ -1,7 +1,7 @@
 use Rattle.std.proofs.Common.{arith, ap, List, [], ◌++◌, ◌≡◌, ◌∙◌, ℕ, length}
 use Rattle.std.specs.Vec.{vec_len}
 use Rattle.lfs_fs.specs.Path.{Path}
-use Rattle.lfs_sync.specs.Sides.{names}
+use Rattle.lfs_listing.specs.Below.{names}
 use Rattle.lfs_sync.proofs.TextLemmas.{both_slashed, no_text, some_text, slashed}
 use Rattle.lfs_sync.proofs.texts.text_of.Goals as goal
 

@@ -3,7 +3,8 @@ use Rattle.std.proofs.lemmas.Result.{on_ok_weaker}
 use Rattle.lfs_block.specs.Disk.{Disk}
 use Rattle.lfs_fs.specs.RowShown.{shown_node}
 use Rattle.lfs_sync.specs.Shown.{wanted_node}
-use Rattle.lfs_sync.specs.Sides.{held_shown, names, wanted_shown}
+use Rattle.lfs_listing.specs.Below.{names}
+use Rattle.lfs_sync.specs.Sides.{held_shown, wanted_shown}
 use Rattle.lfs_sync.specs.Synced.{same_contents, same_kind}
 use Rattle.lfs_sync.proofs.PlanLemmas.{change_planned}
 use Rattle.lfs_sync.proofs.merging.Merging.plan_change.Goals as goal

@@ -1,5 +1,5 @@
 use Rattle.lfs_fs.proofs.PathOrderLemmas.{paths_are_ordered}
-use Rattle.lfs_sync.specs.Sides.{names}
+use Rattle.lfs_listing.specs.Below.{names}
 use Rattle.lfs_sync.proofs.TakeLemmas.{both_fewer, both_taken, first_left}
 use Rattle.lfs_sync.proofs.merging.Merging.take_both.Goals as goal
 

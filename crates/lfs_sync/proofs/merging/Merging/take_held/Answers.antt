@@ -1,6 +1,6 @@
 use Rattle.std.proofs.Common.{arith}
 use Rattle.lfs_fs.proofs.PathOrderLemmas.{paths_are_ordered}
-use Rattle.lfs_sync.specs.Sides.{names}
+use Rattle.lfs_listing.specs.Below.{names}
 use Rattle.lfs_sync.proofs.TakeLemmas.{first_left, held_fewer, held_taken}
 use Rattle.lfs_sync.proofs.merging.Merging.take_held.Goals as goal
 

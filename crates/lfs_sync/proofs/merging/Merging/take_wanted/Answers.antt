@@ -1,6 +1,6 @@
 use Rattle.std.proofs.Common.{arith}
 use Rattle.lfs_fs.proofs.PathOrderLemmas.{paths_are_ordered}
-use Rattle.lfs_sync.specs.Sides.{names}
+use Rattle.lfs_listing.specs.Below.{names}
 use Rattle.lfs_sync.proofs.TakeLemmas.{first_left, wanted_fewer, wanted_taken}
 use Rattle.lfs_sync.proofs.merging.Merging.take_wanted.Goals as goal
 

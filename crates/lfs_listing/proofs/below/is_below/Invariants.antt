@@ -1,7 +1,7 @@
 use Rattle.std.proofs.Common.{◌≡◌, drop}
 use Rattle.lfs_command.specs.PathMap.{below}
-use Rattle.lfs_sync.specs.Sides.{names}
-use Rattle.lfs_sync.proofs.holding.is_below.Given as goal
+use Rattle.lfs_listing.specs.Below.{names}
+use Rattle.lfs_listing.proofs.below.is_below.Given as goal
 
 -- what is left of both decides
 abbrev pub invariant-each : goal.invariant-each

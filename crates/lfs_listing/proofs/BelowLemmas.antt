@@ -7,7 +7,7 @@ use Rattle.std.proofs.lemmas.Slice.Eq.{bytes_eq-Decides}
 use Rattle.lfs_meta.specs.Name.{Name}
 use Rattle.lfs_fs.specs.Path.{Path}
 use Rattle.lfs_command.specs.PathMap.{below}
-use Rattle.lfs_sync.specs.Sides.{names}
+use Rattle.lfs_listing.specs.Below.{names}
 
 pub name_at : (xs : List (Bor Name)) (i : ℕ) (d : Bor Name) → i < length xs
     → drop i (names xs) ≡ (get_or xs i d).now ∷ drop (i + 1) (names xs)

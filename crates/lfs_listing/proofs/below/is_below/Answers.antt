@@ -3,8 +3,8 @@ use Rattle.std.specs.Prelude.{is_some}
 use Rattle.lfs_meta.specs.Name.{Name}
 use Rattle.lfs_fs.specs.Path.{Path}
 use Rattle.lfs_listing.proofs.OrderLemmas.{tested_other, tested_same}
-use Rattle.lfs_sync.proofs.BelowLemmas.{ends_early, other_name, same_name}
-use Rattle.lfs_sync.proofs.holding.is_below.Goals as goal
+use Rattle.lfs_listing.proofs.BelowLemmas.{ends_early, other_name, same_name}
+use Rattle.lfs_listing.proofs.below.is_below.Goals as goal
 
 pub returns-in_default : goal.returns-in_default
 returns-in_default c =
