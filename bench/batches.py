@@ -3,39 +3,13 @@
 larger image one of 1,000, beside one `put`, by the time until it ends, synced files included; and one edit, an attribute of the root, beside `check` and `cp` of the image
 together, by processor time. Each run begins with the same image, which the disk has, and no journal; of each the least of fifteen runs.
 Ends with 1 where a mark is missed."""
-import os
 import pathlib
-import random
-import shutil
-import subprocess
-import sys
 import tempfile
-import time
 
-HOME = pathlib.Path(__file__).resolve().parent.parent
-sys.path.insert(0, str(HOME / "tests"))
-
-from support.folder import PROGRAM, contents, spread
+from measures import copy_anew, cost, end, mark, mixed_files
+from support.folder import PROGRAM, contents
 
 SIZE, LINES, MANY, ROUNDS = 4_096, 200, 1_000, 15
-MISSED = []
-
-
-def mark(what, value, most):
-    """Says whether a value is at most its mark."""
-    if value > most:
-        MISSED.append(what)
-    print(f"  {what} {value:.2f}, to be at most {most}{' MISSED' if value > most else ''}")
-
-
-def spent(command):
-    """The seconds until a command ends, and those of processor time that it takes."""
-    begin = time.perf_counter()
-    child = subprocess.Popen(command, stdin=subprocess.DEVNULL, stdout=subprocess.DEVNULL)
-    _, status, usage = os.wait4(child.pid, 0)
-    if status:
-        sys.exit(f"{command} failed")
-    return time.perf_counter() - begin, usage.ru_utime + usage.ru_stime
 
 
 def small(place):
@@ -46,14 +20,6 @@ def small(place):
             (place / f"d{n}/f{file}").write_bytes(contents(100))
 
 
-def large(place):
-    """5,000 files of mixed sizes, 40 MiB together, in 300 folders: what an image of 64 MiB gets."""
-    chance = random.Random(9)
-    sizes = [chance.choice([0, 100, 2_000, chance.randrange(40_000)]) for _ in range(5_000)]
-    rate = 40 * 2**20 / sum(sizes)
-    spread(place, chance, [round(size * rate) for size in sizes])
-
-
 class Images:
     """An image of a folder, and copies of it on which runs begin."""
 
@@ -61,7 +27,7 @@ class Images:
         self.name, self.place, self.image, self.copy = name, room / name, room / f"{name}.img", room / "copy.img"
         self.other, self.host, self.script = room / "other.img", room / "host", room / "steps"
         fill(self.place)
-        spent([PROGRAM, "pack", "--block", str(SIZE), "--count", str(count), self.image, self.place])
+        cost([PROGRAM, "pack", "--block", str(SIZE), "--count", str(count), self.image, self.place])
         self.host.write_bytes(contents(100))
         self.paths = [f"/{path.relative_to(self.place)}" for path in sorted(self.place.rglob("*")) if path.is_file()]
         self.many = room / "many"
@@ -73,21 +39,12 @@ class Images:
         if lines <= len(self.paths):
             script.write_text("".join(f"put {path} {self.host}\n" for path in self.paths[:: len(self.paths) // lines][:lines]))
 
-    def begin(self):
-        """Makes a new copy of the image, without a journal, and waits until the disk has it: else a run would wait for what was written
-        before it, once it replaces the copy."""
-        for left in self.copy, self.copy.with_name("copy.img.lfsj"):
-            left.unlink(missing_ok=True)
-        shutil.copyfile(self.image, self.copy)
-        with self.copy.open("rb+") as copy:
-            os.fsync(copy.fileno())
-
     def least(self, command, *words):
         """The least times of some runs of a command on a copy of the image: until it ends, and of the processor."""
         found = []
         for _ in range(ROUNDS):
-            self.begin()
-            found.append(spent([PROGRAM, command, "--block", str(SIZE), *words]))
+            copy_anew(self.image, self.copy)
+            found.append(cost([PROGRAM, command, "--block", str(SIZE), *words])[:2])
         return [min(times) for times in zip(*found)]
 
     def measure(self):
@@ -95,7 +52,7 @@ class Images:
         put = self.least("put", "--from", self.host, self.copy, self.paths[0])
         batch = self.least("batch", self.copy, self.script)
         edit, check = self.least("setattr", self.copy, "/", "74", "0102")[1], self.least("check", self.copy)[1]
-        copied = min(spent(["cp", self.image, self.other])[1] for _ in range(ROUNDS))
+        copied = min(cost(["cp", self.image, self.other]).processor for _ in range(ROUNDS))
         print(f"{self.name}: put {1_000 * put[0]:.1f} ms, {LINES} lines {1_000 * batch[0]:.1f} ms until they end; of the processor "
               f"{1_000 * put[1]:.1f} and {1_000 * batch[1]:.1f} ms, edit {1_000 * edit:.1f} ms, check {1_000 * check:.1f} ms, "
               f"cp {1_000 * copied:.1f} ms")
@@ -110,9 +67,9 @@ class Images:
 
 def main():
     with tempfile.TemporaryDirectory() as folder:
-        for name, fill, count in ("1 MiB", small, 256), ("64 MiB", large, 16_384):
+        for name, fill, count in ("1 MiB", small, 256), ("64 MiB", mixed_files, 16_384):
             Images(pathlib.Path(folder), name, fill, count).measure()
-    sys.exit(1 if MISSED else 0)
+    end()
 
 
 main()

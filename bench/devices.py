@@ -1,18 +1,13 @@
 #!/usr/bin/env python3
 """Measures `check --device` of an image of 64 MiB in blocks of 4,096 bytes, as a device of disk version 2.1 writes it, beside `check` of the
 one of version 2.0 with the same tree, by processor time: of each the least of fifteen runs. Ends with 1 where its mark is missed."""
-import os
 import pathlib
-import random
 import struct
 import subprocess
-import sys
 import tempfile
 
-HOME = pathlib.Path(__file__).resolve().parent.parent
-sys.path.insert(0, str(HOME / "tests"))
-
-from support.folder import PROGRAM, spread
+from measures import cost, end, mark, mixed_files
+from support.folder import PROGRAM
 from support.later import LATER, written
 from support.littlefs import Log, Reader
 
@@ -22,10 +17,7 @@ HEADER = 0x201
 
 def packed(room):
     """An image of version 2.0 with 5,000 files of mixed sizes, 40 MiB together, in 300 folders."""
-    chance = random.Random(9)
-    sizes = [chance.choice([0, 100, 2_000, chance.randrange(40_000)]) for _ in range(5_000)]
-    rate = 40 * 2**20 / sum(sizes)
-    spread(room / "tree", chance, [round(size * rate) for size in sizes])
+    mixed_files(room / "tree")
     subprocess.run([PROGRAM, "pack", "--block", str(SIZE), "--count", str(COUNT), room / "a.img", room / "tree"], check=True)
     return (room / "a.img").read_bytes()
 
@@ -47,24 +39,15 @@ def raised(image):
     return bytes(blocks)
 
 
-def spent(words):
-    """The processor time of a run, in seconds."""
-    child = subprocess.Popen([PROGRAM, *words], stdin=subprocess.DEVNULL, stdout=subprocess.DEVNULL)
-    _, status, usage = os.wait4(child.pid, 0)
-    if status:
-        sys.exit(f"{words} failed")
-    return usage.ru_utime + usage.ru_stime
-
-
 def main():
     with tempfile.TemporaryDirectory() as folder:
         room = pathlib.Path(folder)
         (room / "b.img").write_bytes(raised(packed(room)))
         words = ["check", "--block", str(SIZE), room / "a.img"], ["check", "--block", str(SIZE), "--device", room / "b.img"]
-        plain, device = (min(spent(run) for _ in range(ROUNDS)) for run in words)
-    print(f"64 MiB: check {1_000 * plain:.1f} ms, check --device of version 2.1 {1_000 * device:.1f} ms, "
-          f"{device / plain:.2f} times as long, to be at most {MOST}")
-    sys.exit(1 if device > MOST * plain else 0)
+        plain, device = (min(cost([PROGRAM, *run]).processor for _ in range(ROUNDS)) for run in words)
+    print(f"64 MiB: check {1_000 * plain:.1f} ms, check --device of version 2.1 {1_000 * device:.1f} ms")
+    mark("check --device by check", device / plain, MOST)
+    end()
 
 
 main()

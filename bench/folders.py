@@ -3,39 +3,19 @@
 folder and `cp` of the image; and, in rising numbers, empty files in one folder, empty folders in one, and empty files in folders of
 their own. Of the first the least processor time of five runs, each into a folder of its own: where another one was taken away just
 before, file systems look for places that are free again, which costs more than the copy. Ends with 1 where a mark is missed."""
-import os
 import pathlib
-import random
-import subprocess
-import sys
 import tempfile
 
-HOME = pathlib.Path(__file__).resolve().parent.parent
-sys.path.insert(0, str(HOME / "tests"))
-
-from support.folder import PROGRAM, spread
+from measures import cost, end, mark, mixed_files
+from support.folder import PROGRAM
 
 ROUNDS = 5
-MISSED = []
-
-
-def mark(what, value, most):
-    """Says whether a value is at most its mark."""
-    if value > most:
-        MISSED.append(what)
-    print(f"  {what} {value:.2f}, to be at most {most}{' MISSED' if value > most else ''}")
 
 
 def measure(*commands):
     """The seconds of processor time that commands take together, and the peak memory of the first in MiB."""
-    spent, peak = 0, 0
-    for command in commands:
-        child = subprocess.Popen(command, stdout=subprocess.DEVNULL)
-        _, status, usage = os.wait4(child.pid, 0)
-        if status:
-            sys.exit(f"{command} failed")
-        spent, peak = spent + usage.ru_utime + usage.ru_stime, peak or usage.ru_maxrss / 1024
-    return spent, peak
+    costs = [cost(command) for command in commands]
+    return sum(one.processor for one in costs), costs[0].peak
 
 
 def least(*commands):
@@ -47,18 +27,10 @@ def pack(image, folder, size, count):
     return [PROGRAM, "pack", "--block", str(size), "--count", str(count), image, folder]
 
 
-def fill(place):
-    """5,000 files of mixed sizes, 40 MiB together, in 300 folders."""
-    chance = random.Random(9)
-    sizes = [chance.choice([0, 100, 2_000, chance.randrange(40_000)]) for _ in range(5_000)]
-    rate = 40 * 2**20 / sum(sizes)
-    spread(place, chance, [round(size * rate) for size in sizes])
-
-
 def mixed(room):
     """A folder of mixed files beside the copies."""
     folder, image = room / "mixed", room / "mixed.img"
-    fill(folder)
+    mixed_files(folder)
     spent, peak = least(pack(image, folder, 4_096, 16_384))
     copies = []
     for n in range(ROUNDS):
@@ -101,7 +73,7 @@ def main():
         for kind in "files", "folders", "files in folders":
             few, _, many = [empty(room, kind, count) for count in (7_500, 15_000, 30_000)]
             mark(f"packing four times as many {kind}, by four", many / few / 4, 1.5)
-    sys.exit(1 if MISSED else 0)
+    end()
 
 
 main()

@@ -2,38 +2,20 @@
 """Measures an edit of an image of 64 MiB in blocks of 4,096 bytes behind a thousand changes, an attribute of the root, beside `check` of the
 image, by processor time, for histories of several kinds: files that get other contents and attributes, new files, new directories, and all
 kinds of changes mixed. Of each the least of five runs, each on a new copy of image and journal. Ends with 1 where a mark is missed."""
-import os
 import pathlib
 import random
 import shutil
-import subprocess
-import sys
 import tempfile
 
-HOME = pathlib.Path(__file__).resolve().parent.parent
-sys.path.insert(0, str(HOME / "tests"))
-
-from support.folder import PROGRAM, contents, spread
+from measures import cost, end, mark, mixed_files
+from support.folder import PROGRAM, contents
 
 SIZE, COUNT, CHANGES, ROUNDS, MOST = 4_096, 16_384, 1_000, 5, 20
-MISSED = []
 
 
 def spent(*words):
     """The processor time of a run of the program, in seconds."""
-    child = subprocess.Popen([PROGRAM, *words], stdin=subprocess.DEVNULL, stdout=subprocess.DEVNULL)
-    _, status, usage = os.wait4(child.pid, 0)
-    if status:
-        sys.exit(f"{words} failed")
-    return usage.ru_utime + usage.ru_stime
-
-
-def few_folders(place):
-    """5,000 files of mixed sizes, 40 MiB together, in 300 folders."""
-    chance = random.Random(9)
-    sizes = [chance.choice([0, 100, 2_000, chance.randrange(40_000)]) for _ in range(5_000)]
-    rate = 40 * 2**20 / sum(sizes)
-    spread(place, chance, [round(size * rate) for size in sizes])
+    return cost([PROGRAM, *words]).processor
 
 
 def many_folders(place):
@@ -112,20 +94,17 @@ def measure(room, name, fill):
             shutil.copyfile(image, copy)
             shutil.copyfile(image.with_name("a.img.lfsj"), copy.with_name("copy.img.lfsj"))
             edits.append(spent("setattr", "--keep", str(CHANGES), "--block", str(SIZE), copy, "/", "74", "0102"))
-        rate = min(edits) / check
-        if rate > MOST:
-            MISSED.append(name)
         kind = " ".join(lines.__doc__.split()).rstrip(".")
-        print(f"{name}. {kind}: an edit {1_000 * min(edits):.0f} ms, check {1_000 * check:.0f} ms, "
-              f"{rate:.1f} checks, to be at most {MOST}{' MISSED' if rate > MOST else ''}")
+        print(f"{name}. {kind}: an edit {1_000 * min(edits):.0f} ms, check {1_000 * check:.0f} ms")
+        mark("an edit by check", min(edits) / check, MOST)
     shutil.rmtree(place)
 
 
 def main():
     with tempfile.TemporaryDirectory() as folder:
-        for name, fill in ("5,000 files", few_folders), ("14,710 files", many_folders):
+        for name, fill in ("5,000 files", mixed_files), ("14,710 files", many_folders):
             measure(pathlib.Path(folder), name, fill)
-    sys.exit(1 if MISSED else 0)
+    end()
 
 
 main()

@@ -7,36 +7,14 @@ files, or to the parts of their directories. Ends with 1 where a mark is missed.
 import os
 import pathlib
 import random
-import shutil
-import subprocess
-import sys
 import tempfile
 import time
 
-HOME = pathlib.Path(__file__).resolve().parent.parent
-sys.path.insert(0, str(HOME / "tests"))
-
-from support.folder import PROGRAM, contents, spread
+from measures import copy_anew, cost, end, mark, mixed_files
+from support.folder import PROGRAM, contents
 from support.littlefs import Reader, blocks_for
 
 SIZE, COUNT, ROUNDS, DIFFERENT = 4_096, 16_384, 9, 10
-MISSED = []
-
-
-def mark(what, value, most):
-    """Says whether a value is at most its mark."""
-    if value > most:
-        MISSED.append(what)
-    print(f"  {what} {value:.2f}, to be at most {most}{' MISSED' if value > most else ''}")
-
-
-def spent(command):
-    """The seconds until a command ends."""
-    begin = time.perf_counter()
-    status = subprocess.run(command, stdin=subprocess.DEVNULL, stdout=subprocess.DEVNULL).returncode
-    if status:
-        sys.exit(f"{command} failed")
-    return time.perf_counter() - begin
 
 
 def read_all(place):
@@ -47,14 +25,6 @@ def read_all(place):
             with open(os.path.join(folder, name), "rb", buffering=0) as held:
                 held.read()
     return time.perf_counter() - begin
-
-
-def fill(place):
-    """5,000 files of mixed sizes, 40 MiB together, in 300 folders."""
-    chance = random.Random(9)
-    sizes = [chance.choice([0, 100, 2_000, chance.randrange(40_000)]) for _ in range(5_000)]
-    rate = 40 * 2**20 / sum(sizes)
-    spread(place, chance, [round(size * rate) for size in sizes])
 
 
 def rewrite(place):
@@ -74,25 +44,16 @@ class Images:
 
     def __init__(self, room):
         self.place, self.image, self.copy, self.host = room / "src", room / "a.img", room / "copy.img", room / "host"
-        fill(self.place)
-        spent([PROGRAM, "pack", "--block", str(SIZE), "--count", str(COUNT), self.image, self.place])
+        mixed_files(self.place)
+        cost([PROGRAM, "pack", "--block", str(SIZE), "--count", str(COUNT), self.image, self.place])
         self.host.write_bytes(contents(100))
-
-    def begin(self):
-        """Makes a new copy of the image, without a journal, and waits until the disk has it: else a run would wait for what was written
-        before it, once it replaces the copy."""
-        for left in self.copy, self.copy.with_name("copy.img.lfsj"):
-            left.unlink(missing_ok=True)
-        shutil.copyfile(self.image, self.copy)
-        with self.copy.open("rb+") as copy:
-            os.fsync(copy.fileno())
 
     def least(self, command, *words):
         """The least time of some runs of a command on a copy of the image."""
         found = []
         for _ in range(ROUNDS):
-            self.begin()
-            found.append(spent([PROGRAM, command, "--block", str(SIZE), *words]))
+            copy_anew(self.image, self.copy)
+            found.append(cost([PROGRAM, command, "--block", str(SIZE), *words]).until_end)
         return min(found)
 
     def sync(self):
@@ -129,7 +90,7 @@ class Images:
 def main():
     with tempfile.TemporaryDirectory() as folder:
         Images(pathlib.Path(folder)).measure()
-    sys.exit(1 if MISSED else 0)
+    end()
 
 
 main()
