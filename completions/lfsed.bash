@@ -55,7 +55,7 @@ _lfsed() {
       ;;
     extract)
       options='-b --block --device --offset --older -h --help'
-      words='IMAGE DIR'
+      words='IMAGE DIR PATH'
       ;;
     salvage)
       options='-b --block --device --offset --older -h --help'

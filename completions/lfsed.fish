@@ -100,6 +100,7 @@ complete -c lfsed -n '__lfsed_at find 0' -F
 complete -c lfsed -n '__fish_seen_subcommand_from find' -s h -l help -d 'Print help'
 complete -c lfsed -n '__lfsed_at extract 0' -F
 complete -c lfsed -n '__lfsed_at extract 1' -a '(__fish_complete_directories)'
+complete -c lfsed -n '__lfsed_at extract 2' -a '(__lfsed_paths)'
 complete -c lfsed -n '__fish_seen_subcommand_from extract' -s b -l block -x -d 'Size of a block, a multiple of 16 from 256 to 65536, or auto [default: 4096]'
 complete -c lfsed -n '__fish_seen_subcommand_from extract' -l device -d 'Read the image as a device does: also disk version 2.1, and a superblock that was expanded'
 complete -c lfsed -n '__fish_seen_subcommand_from extract' -l offset -x -d 'Place in the file at which the image begins: 1114112, 0x110000, 1088k or 1M'

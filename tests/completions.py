@@ -58,6 +58,7 @@ LINES = [
     ("lfsed sync fw.img fol", ["sync", "fw.img", "folder/"]),
     ("lfsed sync --keep 3 fw.img fol", ["sync", "--keep", "3", "fw.img", "folder/"]),
     ("lfsed sync -b 512 fw.img folder /di", ["sync", "-b", "512", "fw.img", "folder", "/dir"]),
+    ("lfsed extract -b 512 fw.img made /di", ["extract", "-b", "512", "fw.img", "made", "/dir"]),
     ("lfsed rm --rec", ["rm", "--recursive"]),
     ("lfsed rm -r -b 512 fw.img /con", ["rm", "-r", "-b", "512", "fw.img", "/config"]),
     ("lfsed mkdir --par", ["mkdir", "--parents"]),

@@ -1,6 +1,7 @@
 #!/usr/bin/env python3
-"""Makes folders of images, packed ones among them, and compares them with what the images hold."""
+"""Makes folders of images and of directories in them, packed ones among them, and compares them with what the images hold."""
 import pathlib
+import shutil
 import sys
 import tempfile
 
@@ -73,8 +74,72 @@ def what_is_refused(folder):
     folder.check("the file is kept", folder.image.with_name("file").read_bytes() == b"kept")
 
 
+def is_part(folder, words, wanted):
+    """Makes a folder by these words, compares it, and takes it away; image and journal stay as they were."""
+    before, place = (folder.old(), folder.saved()), folder.image.with_name("made")
+    ended = folder.run(f"extract {words}")
+    found = holds(place)
+    folder.check(words, ended == (0, "", b"") and place.is_dir() and found == wanted, (ended, [*found][:9]))
+    folder.check(f"{words}: image", (folder.old(), folder.saved()) == before)
+    shutil.rmtree(place, ignore_errors=True)
+
+
+def parts_of_images(folder):
+    """Each directory of a packed folder is made as a folder of its own, also the root, an empty one, a deep one, and those whose names
+    begin as another one's; in each way in which an image is looked at."""
+    source = folder.image.with_name("src")
+    for name in "a/empty", "a/n", "ab/n", "a0/n", "deep/d/d/d/d/d":
+        (source / name).mkdir(parents=True)
+    for name, length in (("a/f", 70), ("a/n/f", 0), ("ab/n/f", 1_500), ("a0/f", 3), ("deep/d/d/d/d/d/f", 600), ("z", 9)):
+        (source / name).write_bytes(contents(length))
+    ended = folder.run("pack -b 512 --count 48 a.img src")
+    folder.check("parts: packed", ended == (0, "", b""), ended)
+    folder.image.with_name("flash.bin").write_bytes(bytes(700) + folder.old() + bytes(9))
+    for place in [source, *filter(pathlib.Path.is_dir, source.rglob("*"))]:
+        path = f"/{place.relative_to(source)}".replace("/.", "/")
+        for options in "-b 512 a.img", "-b auto a.img", "-b 512 --device a.img", "-b 512 --older a.img", "-b 512 --offset 700 flash.bin":
+            is_part(folder, f"{options} made {path}", holds(place))
+    is_part(folder, "-b 512 a.img made", holds(source))
+
+
+# Paths of an image of which no folder is made.
+NO_PARTS = [
+    ("/a/f", "32 NotADirectory", "/a/f: is a file"),
+    ("/a/f/x", "32 NotADirectory", "/a/f: is a file"),
+    ("/none", "30 NotFound", "/none: nothing is there"),
+    ("/a/none/x", "30 NotFound", "/a/none: nothing is there"),
+    ("a", "35 BadPath", "a: a path begins with /: try /a"),
+    ("/a/", "35 BadPath", "/a/: a path has no slash at its end: try /a"),
+    ("/a//f", "35 BadPath", "/a//f: two slashes stand together"),
+    ("/a/..", "35 BadPath", "/a/..: no name of a path is . or .."),
+]
+
+
+def parts_that_are_refused(folder):
+    """The path is judged before what is under the folder's name. Only the names below it have to be such as a host has."""
+    for words, length in ("format -b 512 --count 8 a.img", 0), ("mkdir -b 512 a.img /a", 0), ("put -b 512 a.img /a/f", 65):
+        ended = folder.run(words, length)
+        folder.check(words, ended == (0, "", b""), ended)
+    there = folder.image.with_name("there")
+    there.write_bytes(b"kept")
+    for path, first, second in NO_PARTS:
+        for name in "made", "there":
+            is_refused(folder, f"{name} of {path}", 1, f"lfsed: {first}\nlfsed: a.img: {second}\n", f"extract -b 512 a.img {name} {path}")
+    is_refused(folder, "a part under a name that is there", 4, "lfsed: 62 HostEntry\nlfsed: there: is there already\n",
+               "extract -b 512 a.img there /a")
+    folder.check("what is there is kept", there.read_bytes() == b"kept")
+    for name in b"\xff", b"z\0b":
+        root = superblock(512, 8) + directory(1, b"d", (2, 3)) + directory(2, b"e", (4, 5)) + file(3, name) + tail(SOFT, (2, 3))
+        blocks = {0: log(1, root), 2: log(1, file(0, b"f", b"in d") + tail(SOFT, (4, 5))), 4: log(1, file(0, name))}
+        folder.be(image(512, 8, blocks), 0)
+        is_part(folder, "-b 512 a.img made /d", {pathlib.Path("f"): b"in d"})
+        for path in "", " /", " /e":
+            is_refused(folder, f"the name {name} at{path}", 4, "lfsed: 63 HostName\n", f"extract -b 512 a.img made{path}")
+
+
 def what_is_not_written(folder):
-    """Each call by which a folder is made is refused in turn: what was made is a beginning of the whole."""
+    """Each call by which a folder is made, of an image or of a directory in it, is refused in turn: what was made is a beginning of the
+    whole."""
     source = folder.image.with_name("src")
     (source / "d").mkdir(parents=True)
     (source / "d/f").write_bytes(contents(1_000))
@@ -82,20 +147,25 @@ def what_is_not_written(folder):
     folder.run("pack -b 512 --count 16 a.img src")
     with tempfile.TemporaryDirectory() as library:
         refusing = Refusing(pathlib.Path(library))
-        for call in "open", "write", "statx", "read":
-            for at in range(1, 60):
-                name = f"{call}{at}"
-                ended = folder.run(f"extract -b 512 a.img {name}", env=refusing.env(at, call))
-                if not refusing.was_hit():
-                    break
-                is_told = ended[0] == 4 and ended[1].startswith(("lfsed: 60 CannotRead\n", "lfsed: 61 CannotWrite\n"))
-                folder.check(f"{call} {at}", is_told or ended[0] == 0, ended)
-                place = folder.image.with_name(name)
-                found = holds(place) if place.exists() else {}
-                whole = holds(source)
-                is_front = all(bytes_ is None or whole[path].startswith(bytes_) for path, bytes_ in found.items())
-                folder.check(f"{call} {at}: a beginning", set(found) <= set(whole) and is_front, found)
-                folder.check(f"{call} {at}: done", ended[0] != 0 or found == whole, found)
+        for path, whole in ("/", holds(source)), ("/d", holds(source / "d")):
+            for call in "open", "write", "statx", "read":
+                calls_are_refused(folder, refusing, path, whole, call)
+
+
+def calls_are_refused(folder, refusing, path, whole, call):
+    """Each call of a name is refused in turn where a folder is made of what stands at a path, which is this whole."""
+    for at in range(1, 60):
+        name = f"{call}{at}{path.replace('/', '_')}"
+        ended = folder.run(f"extract -b 512 a.img {name} {path}", env=refusing.env(at, call))
+        if not refusing.was_hit():
+            break
+        is_told = ended[0] == 4 and ended[1].startswith(("lfsed: 60 CannotRead\n", "lfsed: 61 CannotWrite\n"))
+        folder.check(f"{call} {at} of {path}", is_told or ended[0] == 0, ended)
+        place = folder.image.with_name(name)
+        found = holds(place) if place.exists() else {}
+        is_front = all(below in whole and (bytes_ is None or whole[below].startswith(bytes_)) for below, bytes_ in found.items())
+        folder.check(f"{call} {at} of {path}: a beginning", is_front, found)
+        folder.check(f"{call} {at} of {path}: done", ended[0] != 0 or found == whole, found)
 
 
 def nested(folder):
@@ -131,4 +201,6 @@ def many_files(folder):
 
 
 if __name__ == "__main__":
-    sys.exit(run_scenes([worked_folder, what_is_refused, what_is_not_written, nested, large_files, many_files]))
+    sys.exit(run_scenes([
+        worked_folder, what_is_refused, parts_of_images, parts_that_are_refused, what_is_not_written, nested, large_files, many_files,
+    ]))

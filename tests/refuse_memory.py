@@ -99,7 +99,8 @@ def directory_rows(runs):
     runs.row(["mv", "a.img", "/d", "/d/e"], filled)
     runs.row(["mv", "a.img", "/d/x", "/y"], filled)
     runs.row(["mv", "a.img", "/d", "/e"], filled)
-    runs.row(["ls", "a.img"], filled)
+    for path in [], ["/d"], ["/d/x"], ["/none"], ["/d/x/y"], ["d"]:
+        runs.row(["ls", "a.img", *path], filled)
     runs.row(["blocks", "a.img"], filled)
     runs.row(["blocks", "--sum", "a.img"], filled)
     parted = new
@@ -137,8 +138,9 @@ def folder_rows(runs):
     (place / "d/link").symlink_to("f")
     runs.row(["pack", "--count=8", "a.img", "src"], packed)
     runs.row(["pack", "--count=8", "a.img", "none"], packed)
-    runs.row(["extract", "a.img", "made"], packed)
-    runs.row(["extract", "a.img", "src"], packed)
+    for path in [], ["/"], ["/d"], ["/d/f"], ["/none"], ["/d/f/x"], ["d"]:
+        runs.row(["extract", "a.img", "made", *path], packed)
+        runs.row(["extract", "a.img", "src", *path], packed)
 
 
 def tree_rows(runs):
@@ -275,7 +277,7 @@ def device_rows(runs):
     for held in device_images():
         state = held, None
         other.write_bytes(held)
-        for words in ["check"], ["ls"], ["extract", "made"]:
+        for words in ["check"], ["ls"], ["ls", "/d"], ["extract", "made"], ["extract", "made", "/d"]:
             runs.row([words[0], "--device", "a.img", *words[1:]], state)
         runs.row(["cat", "--device", "a.img", "/early"], state)
         runs.row(["diff", "--device", "a.img", "b.img"], (device_images()[0], None))

@@ -22,6 +22,8 @@ PATHS = [
     ("mkdir -b 512 a.img /x/y/z", "30 NotFound", "/x: nothing is there"),
     ("put -b 512 a.img /a/x/y", "30 NotFound", "/a/x: nothing is there"),
     ("rm -b 512 a.img /x", "30 NotFound", "/x: nothing is there"),
+    ("ls -b 512 a.img /a/x", "30 NotFound", "/a/x: nothing is there"),
+    ("extract -b 512 a.img made /x/y", "30 NotFound", "/x: nothing is there"),
     ("mv -b 512 a.img /x /y", "30 NotFound", "/x: nothing is there"),
     ("mv -b 512 a.img /a/f /x/y", "30 NotFound", "/x: nothing is there"),
     ("setattr -b 512 a.img /x 74 01", "30 NotFound", "/x: nothing is there"),
@@ -35,12 +37,17 @@ PATHS = [
     ("mv -b 512 a.img /d /a/f", "31 Exists", "/a/f: something is there"),
     ("mkdir -b 512 a.img /a/f/x", "32 NotADirectory", "/a/f: is a file"),
     ("cat -b 512 a.img /a/f/x/y", "32 NotADirectory", "/a/f: is a file"),
+    ("ls -b 512 a.img /a/f/x", "32 NotADirectory", "/a/f: is a file"),
+    ("extract -b 512 a.img made /a/f", "32 NotADirectory", "/a/f: is a file"),
+    ("extract -b 512 a.img made /a/f/x/y", "32 NotADirectory", "/a/f: is a file"),
     ("mv -b 512 a.img /a/f/x /y", "32 NotADirectory", "/a/f: is a file"),
     ("mv -b 512 a.img /d /a/f/x", "32 NotADirectory", "/a/f: is a file"),
     ("cat -b 512 a.img /a", "33 IsADirectory", "/a: is a directory"),
     ("put -b 512 a.img /a", "33 IsADirectory", "/a: is a directory"),
     ("rm -b 512 a.img /a", "34 NotEmpty", "/a: is not empty"),
     ("cat -b 512 a.img x", "35 BadPath", "x: a path begins with /: try /x"),
+    ("ls -b 512 a.img /a/", "35 BadPath", "/a/: a path has no slash at its end: try /a"),
+    ("extract -b 512 a.img made a", "35 BadPath", "a: a path begins with /: try /a"),
     ("mkdir -b 512 a.img a/x/", "35 BadPath", "a/x/: a path begins with /: try /a/x/"),
     ("mkdir -b 512 a.img /a/x/", "35 BadPath", "/a/x/: a path has no slash at its end: try /a/x"),
     ("put -b 512 a.img /a/", "35 BadPath", "/a/: a path has no slash at its end: try /a"),
@@ -128,7 +135,7 @@ OVER = [
 ]
 # Commands that mount an image: of the first of two, of one that is read, and of one that is changed.
 MOUNTING = ["check -b 512 a.img", "ls -b 512 a.img", "cat -b 512 a.img /f", "diff -b 512 a.img b.img", "log -b 512 a.img", "extract -b 512 a.img made",
-            "repack -b 512 c.img a.img", "mkdir -b 512 a.img /d", "undo -b 512 a.img"]
+            "extract -b 512 a.img made /f", "repack -b 512 c.img a.img", "mkdir -b 512 a.img /d", "undo -b 512 a.img"]
 
 # What a folder has below a folder `d`, the name and how many bytes a file has, each packed into an image of 32 blocks; and what is told of
 # it. A block of 256 bytes has room for an entry of 216: 8 of them for tags, and 8 more where the contents don't stand in it.

@@ -10,11 +10,11 @@ use Rattle.lfs_history.specs.declared.step_fault.StepFault.{StepFault}
 use Rattle.lfs_history.specs.declared.step_fault.StepFault.TheVariants.{Refused as Refused_step, RefusedAt, NothingToUndo, NothingToRedo, JournalFull}
 use Rattle.lfs_history.specs.Batch.{StopsAt, TakesAll}
 use Rattle.lfs_history.specs.History.{History, IsHistory}
-use Rattle.lfs_history.specs.Opening.{Opens, RefusesOpening}
+use Rattle.lfs_history.specs.Opening.{Opens}
 use Rattle.lfs_history.specs.Taking.{Move, Takes}
 use Rattle.lfs_request.specs.declared.fault.Fault.{Fault}
 use Rattle.lfs_request.specs.declared.fault.Fault.TheVariants.{Image}
-use Rattle.lfs_request.specs.Fault.{blames_output, fault_of_step, fault_of_mount, fault_of_opening}
+use Rattle.lfs_request.specs.Fault.{fault_of_step, fault_of_mount, fault_of_opening}
 use Rattle.lfs_request.specs.declared.outcome.Outcome.{Outcome}
 use Rattle.lfs_change.specs.Change.{AnswersChange, AnswersImage, DenotesOn, RefusesChange, RefusesDenoting, RefusesImage, RefusesStep, place_of}
 use Rattle.lfs_block.proofs.BytesLemmas.{image_of_disk}
@@ -37,13 +37,6 @@ some_bytes (byte ∷ bytes) is_none is some = λ same. cc
 pub opened_denotes : (d : Disk) (journal : List ℕ) (h : History) → journal ≢ [] → Opens d journal h → DenotesOn d journal h
 opened_denotes d [] h some opens = absurd (some refl)
 opened_denotes d (byte ∷ bytes) h some opens = opens
-
-pub opening_refused : (f : OpenFault) (d : Disk) (journal : List ℕ) → journal ≢ [] → RefusesOpening f d journal
-    → RefusesDenoting f d journal
-opening_refused (opening.Mount fault) d journal some refuses = refuses
-opening_refused opening.JournalFormat d journal some refuses = (some, refuses)
-opening_refused opening.JournalMismatch d journal some refuses = (some, refuses)
-opening_refused opening.JournalImage d journal some refuses = (some, refuses)
 
 -- ---- one step
 
@@ -77,14 +70,6 @@ pub stop_refuses : (f : StepFault) (steps : List Move) (at : ℕ) (d : Disk) (jo
     → StopsAt steps at f old mid → RefusesImage steps (place_of at f) d journal (fault_of_step f)
 stop_refuses f steps at d journal old mid denotes stops =
     step_refuses f steps at d journal (record { old = old; denotes = denotes; mid = mid; stops = stops })
-
--- a step's fault isn't one of standard output
-pub step_is_silent : (f : StepFault) → blames_output (Some (fault_of_step f)) ≡ false
-step_is_silent (Refused_step r) = refl
-step_is_silent (RefusedAt within r) = refl
-step_is_silent NothingToUndo = refl
-step_is_silent NothingToRedo = refl
-step_is_silent JournalFull = refl
 
 -- ---- what is answered on bytes
 

@@ -1,9 +1,10 @@
 //! Parts that are set, weighed and cut.
 
-ghost use Rattle.std.specs.Prelude.{◌≡◌, ◌<◌, ◌≤◌, ◌∷◌, [], length, sum_by, IfOk, IfSome};
+ghost use Rattle.std.specs.Prelude.{◌≡◌, ◌<◌, ◌≤◌, ◌∷◌, [], All, length, sum_by, IfOk, IfSome};
 ghost use Rattle.lfs_fs.specs.Directory.{thread};
+ghost use Rattle.lfs_command.specs.Cut.{HasEnough};
 ghost use Rattle.lfs_command.specs.Need.{dirty_parts, part_blocks};
-ghost use Rattle.lfs_cut.specs.Chosen.{HasPairsOnce};
+ghost use Rattle.lfs_cut.specs.Chosen.{HasPairsOnce, chosen_for};
 
 use crate::images::image_of;
 use arrayvec::ArrayVec;
@@ -63,21 +64,23 @@ fn outline(alloc: Global, size: u32, directories: Vec<OutlineDirectory>) -> Outl
 }
 
 // a directory of one part, which is set
-fn directory(alloc: Global, pair: (u32, u32), entries: Vec<OutlineEntry>) -> OutlineDirectory
+fn directory(
+    alloc: Global,
+    pair: (u32, u32),
+    entries: Vec<OutlineEntry>,
+) -> Result<OutlineDirectory, AllocError>
     requires { length entries.items < 32768 }
-    ensures more { result.more ≡ [] }
-    ensures pair { result.first.pair ≡ pair }
-    ensures few { length result.first.entries < 32768 }
+    ensures more { IfOk result (λ d. d.more ≡ []) }
+    ensures pair { IfOk result (λ d. d.first.pair ≡ pair) }
+    ensures few { IfOk result (λ d. length d.first.entries < 32768) }
 {
-    OutlineDirectory {
-        first: OutlinePart {
-            pair,
-            entries,
-            delta: Delta::none(),
-            dirty: true,
-        },
-        more: Vec::new(alloc),
-    }
+    let part = OutlinePart {
+        pair,
+        entries,
+        delta: Delta::none(),
+        dirty: true,
+    };
+    OutlineDirectory::new(alloc, part, Vec::new(alloc))
 }
 
 // an outline of one such directory, of few entries
@@ -95,7 +98,10 @@ fn one_part(
     if entries.len() >= 32_768 {
         return None;
     }
-    match vec![in alloc; directory(alloc, pair, entries)] {
+    let Ok(directory) = directory(alloc, pair, entries) else {
+        return None;
+    };
+    match vec![in alloc; directory] {
         Ok(directories) => Some(outline(alloc, size, directories)),
         Err(_) => None,
     }
@@ -124,10 +130,10 @@ fn need(outline: &Outline, used: &UsedBlocks) -> Result<u32, Refusal>
     requires few { sum_by (λ p. length p.entries) (thread outline.now.directories) < 65536 }
     ensures { IfOk result (λ need. need ≡ sum_by (part_blocks outline.now) (dirty_parts outline.now)) }
 {
-    needed(outline, 0, used)
+    needed(outline, outline.directories.len(), 0, used)
 }
 
-// the pairs for the new parts of an outline, which needs as many blocks
+// the pairs for the new parts of an outline, which needs as many blocks: as many as there are runs behind first ones
 fn rows_of(
     alloc: Global,
     outline: &Outline,
@@ -138,9 +144,13 @@ fn rows_of(
     requires few { sum_by (λ p. length p.entries) (thread outline.now.directories) < 65536 }
     requires once { HasPairsOnce outline.now }
     requires parts { length (thread outline.now.directories) ≤ 2 }
+    ensures { IfSome result (λ rows. All (HasEnough (chosen_for rows.items) outline.now) (thread outline.now.directories)) }
 {
+    let front = outline.directories.len();
     match need(outline, used) {
-        Ok(need) if need as usize == blocks.len() => choose(alloc, outline, None, blocks).ok(),
+        Ok(need) if need as usize == blocks.len() => {
+            choose(alloc, outline, front, None, blocks).ok()
+        }
         _ => None,
     }
 }
@@ -169,20 +179,25 @@ fn are_behind(parts: &[OutlinePart]) -> bool {
 // whether a part was cut into three
 fn is_cut(outline: &Outline) -> bool {
     match outline.directories.as_slice() {
-        [directory] => begins(&directory.first, (0, 1), b'a') && are_behind(&directory.more),
+        [directory] => begins(&directory.parts.first, (0, 1), b'a')
+            && are_behind(&directory.parts.more),
         _ => false,
     }
 }
 
 // whether the parts of an outline are cut into blocks, and clean then
 fn cuts(alloc: Global, outline: &mut Outline, rows: &[NewPairs]) -> bool
-    requires { outline.old.size ≤ 65536 }
+    requires size { outline.old.size ≤ 65536 }
+    requires enough { All (HasEnough (chosen_for rows.now) outline.old) (thread outline.old.directories) }
 {
-    if cut(alloc, outline, rows).is_err() {
-        return false;
+    let front = outline.directories.len();
+    match cut(alloc, outline, front, rows) {
+        Ok(()) => {
+            clean(outline, front);
+            is_cut(outline)
+        }
+        Err(_) => false,
     }
-    clean(outline);
-    is_cut(outline)
 }
 
 // whether the part of these entries is cut into these blocks

@@ -1,10 +1,12 @@
 //! What commands are refused for, and which parts lead.
 
+ghost use Rattle.lfs_draft.specs.Editable.{NamesRise};
+
 use crate::images::{carries_out, new_session};
 use lfs_block::Image;
 use lfs_command::{Asked, Command, Refusal, by_names};
 use lfs_draft::{judge, leading_pair};
-use lfs_fs::{Outline, mount};
+use lfs_fs::{Outline, mount, outlines_are_sound};
 use lfs_journal::Session;
 use std::alloc::Global;
 
@@ -37,8 +39,10 @@ const ROWS: [Judged; 6] = [
     (Command::Grow { count: 9 }, None, None),
 ];
 
-// whether a command is judged so on an outline
-fn is_judged(alloc: Global, outline: &Outline, row: &Judged) -> bool {
+// whether a command is judged so on an outline whose names rise
+fn is_judged(alloc: Global, outline: &Outline, row: &Judged) -> bool
+    requires { NamesRise outline.now.directories }
+{
     let (command, refusal, pair) = row;
     match by_names(alloc, command) {
         Ok(named) => {
@@ -48,8 +52,10 @@ fn is_judged(alloc: Global, outline: &Outline, row: &Judged) -> bool {
     }
 }
 
-// whether the commands are judged so on an outline
-fn all_are_judged(alloc: Global, outline: &Outline) -> bool {
+// whether the commands are judged so on an outline whose names rise
+fn all_are_judged(alloc: Global, outline: &Outline) -> bool
+    requires { NamesRise outline.now.directories }
+{
     for row in &ROWS {
         if !is_judged(alloc, outline, row) {
             return false;
@@ -60,6 +66,7 @@ fn all_are_judged(alloc: Global, outline: &Outline) -> bool {
 
 // whether they are on an image
 fn are_judged(alloc: Global, image: &Image) -> bool {
+    outlines_are_sound();
     match mount(alloc, image) {
         Ok(mounted) => all_are_judged(alloc, mounted.outline()),
         Err(_) => false,

@@ -5,3 +5,4 @@ pub mod SumLemmas
 pub mod ChosenPairs
 pub mod InOrder
 pub mod CutPartLemmas
+pub mod FrontLemmas

@@ -4,3 +4,4 @@ pub mod RoomChecks
 pub mod Overflow
 pub mod Chosen
 pub mod CutParts
+pub mod Front

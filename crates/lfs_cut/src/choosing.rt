@@ -4,12 +4,14 @@ ghost use Rattle.std.specs.Prelude.{◌≡◌, ℕ, ◌*◌, ◌≤◌, All, nat
 ghost use Rattle.std.specs.List.{filter};
 ghost use Rattle.lfs_fs.specs.Directory.{thread};
 ghost use Rattle.lfs_fs.specs.Uses.{times};
+ghost use Rattle.lfs_cut.specs.Front.{IsCleanFrom};
 ghost use Rattle.lfs_cut.specs.Chosen.{ArePairRows, HasPairsOnce, chosen_for};
 ghost use Rattle.lfs_command.specs.Cut.{HasEnough, new_pair_uses, runs};
 ghost use Rattle.lfs_command.specs.Need.{dirty_parts, part_blocks};
 ghost use Rattle.lfs_command.specs.Ordered.{blocks_chosen, overflowing, overflowing_led};
 
 use crate::block_room::block_room;
+use crate::front::in_front;
 use crate::new_pairs::{NewPairs, pairs_of};
 use crate::overflow::{Overflow, overflows_of, put_first};
 use arrayvec::ArrayVec;
@@ -42,17 +44,19 @@ fn rows_of(
 
 /// The pairs for the new parts of an outline: a row for each part that is set and has more than one run, that of the pair
 /// `leading` first, then in the order of the thread. The pairs of all rows are the blocks two by two in order. The caller owes
-/// what `block_room` asks, as many blocks as the parts need (`new_blocks`), that no two parts have the same pair, and at most two
-/// parts with more than one run.
+/// what `block_room` asks, that only parts of so many directories in front are set, as many blocks as the parts need
+/// (`new_blocks`), that no two parts have the same pair, and at most two parts with more than one run.
 ///
 /// Source: own.
 pub fn choose(
     alloc: Global,
     outline: &Outline,
+    front: usize,
     leading: Option<(u32, u32)>,
     blocks: &[u32],
 ) -> Result<ArrayVec<NewPairs, 2, Global>, AllocError>
     requires size { outline.now.size ≤ 65536 }
+    requires front { IsCleanFrom front outline.now.directories }
     requires needed { length blocks.now ≡ sum_by (part_blocks outline.now) (dirty_parts outline.now) }
     requires once { HasPairsOnce outline.now }
     requires few { length (filter (λ p. nat_lt 1 (length (runs outline.now p))) (dirty_parts outline.now)) ≤ 2 }
@@ -61,7 +65,7 @@ pub fn choose(
     ensures uses { IfOk result (λ rows. (b : ℕ) → new_pair_uses (chosen_for rows.items) outline.now b ≡ times b blocks.now) }
 {
     let room = block_room(outline);
-    let mut overflows = overflows_of(room, &outline.directories);
+    let mut overflows = overflows_of(room, in_front(&outline.directories, front));
     put_first(&mut overflows, leading);
     let rows = rows_of(alloc, &overflows, blocks)?;
     Ok(rows)

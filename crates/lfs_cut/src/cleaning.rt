@@ -1,8 +1,9 @@
 //! Outlines without marks of a command.
 
-ghost use Rattle.std.specs.Prelude.{◌≡◌, map};
+ghost use Rattle.std.specs.Prelude.{◌≡◌, ◌++◌, drop, map, take};
 ghost use Rattle.lfs_command.specs.Clean.{clean, cleaned};
 ghost use Rattle.lfs_command.specs.DirectoryEdit.{each_part};
+ghost use Rattle.lfs_cut.specs.Front.{IsCleanFrom};
 
 use lfs_fs::{Outline, OutlineDirectory, OutlinePart};
 
@@ -26,24 +27,27 @@ fn clean_parts(parts: &mut Vec<OutlinePart>)
 fn clean_directory(directory: &mut OutlineDirectory)
     ensures { directory.new ≡ each_part cleaned directory.old }
 {
-    clean_part(&mut directory.first);
-    clean_parts(&mut directory.more);
+    clean_part(&mut directory.parts.first);
+    clean_parts(&mut directory.parts.more);
 }
 
-/// Takes the marks off the parts of directories.
-fn clean_directories(directories: &mut Vec<OutlineDirectory>)
-    ensures { directories.new.items ≡ map (each_part cleaned) directories.old.items }
+/// Takes the marks off the parts of so many directories in front.
+fn clean_directories(directories: &mut Vec<OutlineDirectory>, front: usize)
+    ensures { directories.new.items ≡ map (each_part cleaned) (take front directories.old.items) ++ drop front directories.old.items }
 {
-    for directory in directories.iter_mut() {
-        clean_directory(directory);
+    let end = front.min(directories.len());
+    'each: for at in 0..end {
+        clean_directory(&mut directories[at]);
     }
 }
 
-/// Takes the marks off the parts of an outline, once they are written. Takes no memory.
+/// Takes the marks off the parts of an outline, once they are written. The caller owes that only parts of so many directories in front are set.
+/// Takes no memory.
 ///
 /// Source: own.
-pub fn clean(outline: &mut Outline)
+pub fn clean(outline: &mut Outline, front: usize)
+    requires { IsCleanFrom front outline.old.directories }
     ensures { outline.new ≡ clean outline.old }
 {
-    clean_directories(&mut outline.directories);
+    clean_directories(&mut outline.directories, front);
 }

@@ -1,18 +1,21 @@
 //! How the parts of an outline that a command set are cut.
 
-ghost use Rattle.std.specs.Prelude.{◌≡◌, ◌≤◌, ◌++◌, map, IfOk, OnOk};
+ghost use Rattle.std.specs.Prelude.{◌≡◌, ◌≤◌, ◌++◌, All, drop, map, take, IfOk, OnOk};
 ghost use Rattle.std.specs.List.{list_any};
 ghost use Rattle.lfs_meta.specs.Runs.{later_runs};
 ghost use Rattle.lfs_cut.specs.Chosen.{chosen_for};
-ghost use Rattle.lfs_fs.specs.Directory.{parts};
-ghost use Rattle.lfs_command.specs.Cut.{cut, more_parts};
+ghost use Rattle.lfs_fs.specs.Directory.{parts, thread};
+ghost use Rattle.lfs_command.specs.Cut.{HasEnough, cut, more_parts};
+ghost use Rattle.lfs_cut.specs.Front.{IsCleanFrom};
 ghost use Rattle.lfs_cut.specs.CutParts.{cut_all, directory_by, head_by, tail_by, with_first_run};
 ghost use Rattle.lfs_law.specs.PartsCut.{runs_by};
 
 use crate::block_room::{BlockRoom, begun_run, block_room};
 use crate::new_pairs::NewPairs;
 use crate::splitting::split;
-use lfs_fs::{Delta, Outline, OutlineDirectory, OutlineEntry, OutlinePart};
+use lfs_fs::{
+    Delta, Outline, OutlineDirectory, OutlineEntry, OutlinePart, entries_are_cut_greedily,
+};
 use lfs_meta::lists_have_a_run;
 use std::alloc::{AllocError, Global};
 
@@ -118,9 +121,9 @@ fn cut_each_part(
 ) -> Result<(), AllocError>
     ensures { OnOk result (directory.new ≡ directory_by room.bytes room.superblock rows.now directory.old) }
 {
-    let new = cut_part(alloc, room, &mut directory.first, rows)?;
-    let more = std::mem::replace(&mut directory.more, Vec::new(alloc));
-    directory.more = cut_parts(alloc, room, more, new, rows)?;
+    let new = cut_part(alloc, room, &mut directory.parts.first, rows)?;
+    let more = std::mem::replace(&mut directory.parts.more, Vec::new(alloc));
+    directory.parts.more = cut_parts(alloc, room, more, new, rows)?;
     Ok(())
 }
 
@@ -142,7 +145,7 @@ fn any_set(parts: &[OutlinePart]) -> bool
 fn has_set_part(directory: &OutlineDirectory) -> bool
     ensures { result ≡ list_any (λ p. p.dirty) (parts directory.now) }
 {
-    is_set(&directory.first) || any_set(&directory.more)
+    is_set(&directory.parts.first) || any_set(&directory.parts.more)
 }
 
 /// Cuts each part of a directory that is set; a directory without one is not touched. Want of memory takes parts.
@@ -160,30 +163,46 @@ fn cut_directory(
     Ok(())
 }
 
-/// Cuts each part of directories that is set. Want of memory takes parts.
+/// Cuts each part of so many directories in front that is set. Want of memory takes parts.
 fn cut_directories(
     alloc: Global,
     room: BlockRoom,
     directories: &mut Vec<OutlineDirectory>,
+    front: usize,
     rows: &[NewPairs],
 ) -> Result<(), AllocError>
-    ensures { OnOk result (directories.new.items ≡ map (directory_by room.bytes room.superblock rows.now) directories.old.items) }
+    ensures { OnOk result (directories.new.items ≡ map (directory_by room.bytes room.superblock rows.now) (take front directories.old.items)
+        ++ drop front directories.old.items) }
 {
-    for directory in directories.iter_mut() {
-        cut_directory(alloc, room, directory, rows)?;
+    let end = front.min(directories.len());
+    'each: for at in 0..end {
+        cut_directory(alloc, room, &mut directories[at], rows)?;
     }
     Ok(())
 }
 
 /// Cuts each part of an outline that is set: it keeps its first run, and the others go to new parts right behind it, in the pairs
-/// of its row. The caller owes what `block_room` asks. Want of memory leaves an outline that is cut in part, and lacks entries.
+/// of its row. The caller owes what `block_room` asks, that only parts of so many directories in front are set, and as many pairs as each
+/// of them has runs behind its first. Want of memory leaves an outline that is cut in part, and lacks entries.
 ///
 /// Source: own.
-pub fn cut(alloc: Global, outline: &mut Outline, rows: &[NewPairs]) -> Result<(), AllocError>
+pub fn cut(
+    alloc: Global,
+    outline: &mut Outline,
+    front: usize,
+    rows: &[NewPairs],
+) -> Result<(), AllocError>
     requires size { outline.old.size ≤ 65536 }
-    ensures { OnOk result (outline.new ≡ cut (chosen_for rows.now) outline.old) }
+    requires front { IsCleanFrom front outline.old.directories }
+    requires enough { All (HasEnough (chosen_for rows.now) outline.old) (thread outline.old.directories) }
+    ensures cut { OnOk result (outline.new ≡ cut (chosen_for rows.now) outline.old) }
+    ensures front { OnOk result (IsCleanFrom front outline.new.directories) }
 {
+    entries_are_cut_greedily();
+    if rows.is_empty() {
+        return Ok(());
+    }
     let room = block_room(outline);
-    cut_directories(alloc, room, &mut outline.directories, rows)?;
+    cut_directories(alloc, room, &mut outline.directories, front, rows)?;
     Ok(())
 }

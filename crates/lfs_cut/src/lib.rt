@@ -5,6 +5,7 @@ mod block_room;
 mod choosing;
 mod cleaning;
 mod cutting;
+mod front;
 mod new_blocks;
 mod new_pairs;
 mod overflow;

@@ -2,9 +2,11 @@
 
 ghost use Rattle.std.specs.Prelude.{◌≡◌, ◌≤◌, min, sum_by};
 ghost use Rattle.lfs_command.specs.Need.{dirty_parts, part_blocks};
+ghost use Rattle.lfs_cut.specs.Front.{IsCleanFrom};
 ghost use Rattle.lfs_cut.specs.SetParts.{set_blocks, set_blocks_of};
 
 use crate::block_room::{BlockRoom, block_room};
+use crate::front::in_front;
 use crate::runs::part_runs;
 use lfs_fs::{Outline, OutlineDirectory, OutlinePart};
 
@@ -34,8 +36,8 @@ fn blocks_of_parts(room: BlockRoom, parts: &[OutlinePart]) -> u64
 fn directory_blocks(room: BlockRoom, directory: &OutlineDirectory) -> u64
     ensures { result ≡ min u64.MAX (set_blocks_of room.bytes room.superblock directory.now) }
 {
-    let first = part_blocks(room, &directory.first);
-    first.saturating_add(blocks_of_parts(room, &directory.more))
+    let first = part_blocks(room, &directory.parts.first);
+    first.saturating_add(blocks_of_parts(room, &directory.parts.more))
 }
 
 /// The new blocks of the parts of directories. At most 2^64 - 1.
@@ -50,10 +52,11 @@ fn blocks_of_directories(room: BlockRoom, directories: &[OutlineDirectory]) -> u
 }
 
 /// The new blocks of the parts that are set: two for each run behind a part's first. At most 2^64 - 1, which is more than any image
-/// has. The caller owes what `block_room` asks. Takes no memory.
-pub(crate) fn new_blocks(outline: &Outline) -> u64
+/// has. The caller owes what `block_room` asks, and that only parts of so many directories in front are set. Takes no memory.
+pub(crate) fn new_blocks(outline: &Outline, front: usize) -> u64
     requires size { outline.now.size ≤ 65536 }
+    requires front { IsCleanFrom front outline.now.directories }
     ensures { result ≡ min u64.MAX (sum_by (part_blocks outline.now) (dirty_parts outline.now)) }
 {
-    blocks_of_directories(block_room(outline), &outline.directories)
+    blocks_of_directories(block_room(outline), in_front(&outline.directories, front))
 }

@@ -56,8 +56,8 @@ fn note_directory(
     requires { array_vec_len overflows.old + length (overflows_of room.bytes room.superblock (parts directory.now)) ≤ 2 }
     ensures { overflows.new.items ≡ overflows.old.items ++ overflows_of room.bytes room.superblock (parts directory.now) }
 {
-    note(room, &directory.first, overflows);
-    note_all(room, &directory.more, overflows);
+    note(room, &directory.parts.first, overflows);
+    note_all(room, &directory.parts.more, overflows);
 }
 
 /// The parts that are set and have more than one run, in the order of the thread. The caller owes at most two. Takes no memory.

@@ -2,6 +2,7 @@
 
 ghost use Rattle.std.specs.Prelude.{◌≡◌, ◌+◌, ◌<◌, ◌≤◌, ◌^◌, None, Some, sum_by, IfOk, IfErr, OnOk};
 ghost use Rattle.lfs_fs.specs.Unused.{unused};
+ghost use Rattle.lfs_cut.specs.Front.{IsCleanFrom};
 ghost use Rattle.lfs_cut.specs.RoomChecks.{room_checks_on};
 ghost use Rattle.lfs_command.specs.Need.{dirty_parts, part_blocks};
 ghost use Rattle.lfs_command.specs.Verdict.{first_refusal};
@@ -13,20 +14,22 @@ use lfs_fs::{Outline, UsedBlocks};
 
 /// How many blocks a command needs: those that it takes for what it makes, and those of the new parts of the outline that it leaves.
 /// `EntryTooLarge` where some part that is set has an entry that weighs more than a block has room for, else `NoSpace` where fewer
-/// blocks are free. The caller owes what `block_room` asks, and that the need is below 2^32. Takes no memory.
+/// blocks are free. The caller owes what `block_room` asks, that only parts of so many directories in front are set, and that the need is
+/// below 2^32. Takes no memory.
 ///
 /// Source: own.
-pub fn needed(outline: &Outline, made: u32, used: &UsedBlocks) -> Result<u32, Refusal>
+pub fn needed(outline: &Outline, front: usize, made: u32, used: &UsedBlocks) -> Result<u32, Refusal>
     requires size { outline.now.size ≤ 65536 }
+    requires front { IsCleanFrom front outline.now.directories }
     requires small { made + sum_by (part_blocks outline.now) (dirty_parts outline.now) < 2 ^ 32 }
     ensures need { IfOk result (λ need. need ≡ made + sum_by (part_blocks outline.now) (dirty_parts outline.now)) }
     ensures unrefused { OnOk result (first_refusal (room_checks_on outline.now made (unused used.now)) ≡ None) }
     ensures refused { IfErr result (λ r. first_refusal (room_checks_on outline.now made (unused used.now)) ≡ Some r) }
 {
-    if has_too_large(outline) {
+    if has_too_large(outline, front) {
         return Err(Refusal::EntryTooLarge);
     }
-    let need = made + new_blocks(outline) as u32;
+    let need = made + new_blocks(outline, front) as u32;
     let free = used.free_count();
     if need > free {
         return Err(Refusal::NoSpace { need, free });

@@ -4,9 +4,11 @@ ghost use Rattle.std.specs.Prelude.{◌≡◌, ◌≤◌, nat_lt};
 ghost use Rattle.std.specs.List.{list_any};
 ghost use Rattle.lfs_fs.specs.Weight.{weight};
 ghost use Rattle.lfs_law.specs.OutlineCarried.{has_too_large};
+ghost use Rattle.lfs_cut.specs.Front.{IsCleanFrom};
 ghost use Rattle.lfs_cut.specs.SetParts.{has_too_large_by, is_set_too_large, is_too_large_by};
 
 use crate::block_room::{BlockRoom, block_room, is_root};
+use crate::front::in_front;
 use crate::weighing::weight;
 use lfs_fs::{Outline, OutlineDirectory, OutlineEntry, OutlinePart};
 
@@ -42,7 +44,7 @@ fn any_too_large(room: BlockRoom, parts: &[OutlinePart]) -> bool
 fn directory_too_large(room: BlockRoom, directory: &OutlineDirectory) -> bool
     ensures { result ≡ has_too_large_by room.bytes room.superblock directory.now }
 {
-    is_set_too_large(room, &directory.first) || any_too_large(room, &directory.more)
+    is_set_too_large(room, &directory.parts.first) || any_too_large(room, &directory.parts.more)
 }
 
 /// Whether some part of directories is set, and has too large an entry.
@@ -55,10 +57,11 @@ fn any_directory_too_large(room: BlockRoom, directories: &[OutlineDirectory]) ->
 }
 
 /// Whether some part that is set has an entry, the superblock among them, that weighs more than a block has room for. The caller
-/// owes what `block_room` asks. Takes no memory.
-pub(crate) fn has_too_large(outline: &Outline) -> bool
+/// owes what `block_room` asks, and that only parts of so many directories in front are set. Takes no memory.
+pub(crate) fn has_too_large(outline: &Outline, front: usize) -> bool
     requires size { outline.now.size ≤ 65536 }
+    requires front { IsCleanFrom front outline.now.directories }
     ensures { result ≡ has_too_large outline.now }
 {
-    any_directory_too_large(block_room(outline), &outline.directories)
+    any_directory_too_large(block_room(outline), in_front(&outline.directories, front))
 }

@@ -34,7 +34,7 @@ added_behind k new ds all i d after found put touched =
     ∙ ap (λ (xs : List Directory). slice_set xs i (touch_last (slice_index_or xs i d))) (put ∙ ap (λ (n : ℕ). insert ds n new) one_more)
     ∙ added_at k new ds i d here.0 here.1 here.2
 
-added_nowhere : (k : Pair) (new : Directory) (ds : List Directory) → find (begins_at k) ds ≡ None → ds ≡ add_after k new ds
+pub added_nowhere : (k : Pair) (new : Directory) (ds : List Directory) → find (begins_at k) ds ≡ None → ds ≡ add_after k new ds
 unfolding add_after
 added_nowhere k new [] none = refl
 added_nowhere k new (d ∷ ds) none = by (begins_at k d) refl (added_nowhere k new ds (none_later (begins_at k) d ds none))

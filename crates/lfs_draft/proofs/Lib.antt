@@ -12,3 +12,5 @@ pub mod PathsBelow
 pub mod NoHome
 pub mod ReachSteps
 pub mod FreeingLemmas
+pub mod LastNames
+pub mod FrontLemmas

@@ -3,3 +3,5 @@ pub mod EntryChange
 pub mod Editable
 pub mod Reaches
 pub mod Freeing
+pub mod LastNames
+pub mod Front

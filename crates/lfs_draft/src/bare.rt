@@ -26,7 +26,7 @@ fn have_none(parts: &[OutlinePart]) -> bool
 fn is_empty(directory: &OutlineDirectory) -> bool
     ensures { result ≡ (length (entries directory.now) == 0) }
 {
-    has_none(&directory.first) && have_none(&directory.more)
+    has_none(&directory.parts.first) && have_none(&directory.parts.more)
 }
 
 /// Whether the directory that a pair leads to has no entry; so it is where no pair is, or none leads anywhere. Takes no memory.

@@ -5,6 +5,7 @@ ghost use Rattle.std.specs.List.{position};
 ghost use Rattle.std.specs.Option.{unwrap_or};
 ghost use Rattle.lfs_fs.specs.Directory.{Part, entries, parts as parts_of};
 ghost use Rattle.lfs_fs.specs.Entry.{is_named};
+ghost use Rattle.lfs_fs.specs.Sound.{Rise};
 ghost use Rattle.lfs_fs.specs.State.{delta_of};
 ghost use Rattle.lfs_draft.specs.EntryChange.{ChangeFits, entry_change};
 ghost use Rattle.lfs_command.specs.EntryEdit.{changed, place, without};
@@ -12,7 +13,8 @@ ghost use Rattle.lfs_command.specs.DirectoryEdit.{absorb, absorb_in, change_in, 
 
 use crate::entry_change::EntryChange;
 use crate::entry_edit::{change_named, place, take_out};
-use lfs_fs::{Delta, OutlineDirectory, OutlineEntry, OutlinePart, precedes};
+use crate::last_names::ends_before;
+use lfs_fs::{Delta, OutlineDirectory, OutlineEntry, OutlinePart, names_are_ordered, precedes};
 use std::alloc::{AllocError, Global};
 
 /// Whether a part has an entry of a name.
@@ -56,17 +58,25 @@ fn first_greater(parts: &[OutlinePart], name: &[u8]) -> Option<usize>
     parts.iter().position(|part| has_greater(part, name))
 }
 
-/// The place of the part where a name belongs: the first one that has a greater name, else the last one.
+/// The place of the part where a name belongs: the first one that has a greater name, else the last one. The caller owes that names rise. Takes
+/// no time to speak of where the name comes last.
 fn home_among(parts: &[OutlinePart], name: &[u8]) -> usize
-    requires { 0 < length parts.now }
+    requires some { 0 < length parts.now }
+    requires rise { Rise (flat_map (λ p. p.entries) parts.now) }
     ensures { result ≡ unwrap_or (position (has_greater name.now) parts.now) (length parts.now - 1) }
 {
-    first_greater(parts, name).unwrap_or(parts.len() - 1)
+    names_are_ordered();
+    let last = parts.len() - 1;
+    if ends_before(&parts[last], name) {
+        return last;
+    }
+    first_greater(parts, name).unwrap_or(last)
 }
 
-/// Puts an entry into the part where its name belongs, which is set. The caller owes a part. Want of memory changes nothing.
+/// Puts an entry into the part where its name belongs, which is set. The caller owes a part, and that names rise. Want of memory changes nothing.
 fn link_among(parts: &mut Vec<OutlinePart>, entry: OutlineEntry) -> Result<(), AllocError>
-    requires { 0 < length parts.old.items }
+    requires some { 0 < length parts.old.items }
+    requires rise { Rise (flat_map (λ p. p.entries) parts.old.items) }
     ensures linked { OnOk result ((p : Part) (ps : List Part) → parts.old.items ≡ p ∷ ps → parts.new.items ≡ parts_of (link_parts entry p ps)) }
     ensures unchanged { OnErr result (parts.new.items ≡ parts.old.items) }
 {
@@ -81,21 +91,23 @@ fn belongs_first(directory: &OutlineDirectory, name: &[u8]) -> bool
         ((length directory.now.more ≡ 0) ⊎ (has_greater name.now directory.now.first ≡ true))
         ((0 < length directory.now.more) × (has_greater name.now directory.now.first ≡ false)) }
 {
-    directory.more.is_empty() || has_greater(&directory.first, name)
+    directory.parts.more.is_empty() || has_greater(&directory.parts.first, name)
 }
 
-/// Puts an entry into the part of a directory where its name belongs, which is set. Want of memory changes nothing.
+/// Puts an entry into the part of a directory where its name belongs, which is set. The caller owes that its names rise. Want of memory changes
+/// nothing.
 pub(crate) fn link_in(
     directory: &mut OutlineDirectory,
     entry: OutlineEntry,
 ) -> Result<(), AllocError>
+    requires { Rise (entries directory.old) }
     ensures linked { OnOk result (directory.new ≡ link_in entry directory.old) }
     ensures unchanged { OnErr result (directory.new ≡ directory.old) }
 {
     if belongs_first(directory, &entry.name) {
-        place_in(&mut directory.first, entry)?;
+        place_in(&mut directory.parts.first, entry)?;
     } else {
-        link_among(&mut directory.more, entry)?;
+        link_among(&mut directory.parts.more, entry)?;
     }
     Ok(())
 }
@@ -113,8 +125,8 @@ fn take_out_of_all(parts: &mut Vec<OutlinePart>, name: &[u8])
 pub(crate) fn unlink_in(directory: &mut OutlineDirectory, name: &[u8])
     ensures { directory.new ≡ unlink_in name.now directory.old }
 {
-    take_out_of(&mut directory.first, name);
-    take_out_of_all(&mut directory.more, name);
+    take_out_of(&mut directory.parts.first, name);
+    take_out_of_all(&mut directory.parts.more, name);
 }
 
 /// Changes the entry of a name of a part, which is set. The caller owes that no two entries have the name, and what
@@ -135,10 +147,19 @@ fn change_in_part(
     Ok(())
 }
 
-/// The place of the first part that has an entry of a name.
+/// The place of the first part that has an entry of a name. The caller owes that no two entries have it, so that it is sought in the last part
+/// first.
 fn first_with(parts: &[OutlinePart], name: &[u8]) -> Option<usize>
+    requires { count_by (is_named name.now) (flat_map (λ p. p.entries) parts.now) ≤ 1 }
     ensures { result ≡ position (has_name name.now) parts.now }
 {
+    if parts.is_empty() {
+        return None;
+    }
+    let last = parts.len() - 1;
+    if has_name(&parts[last], name) {
+        return Some(last);
+    }
     parts.iter().position(|part| has_name(part, name))
 }
 
@@ -175,10 +196,10 @@ pub(crate) fn change_in(
     ensures changed { OnOk result (directory.new ≡ change_in name.now (entry_change change.entry) directory.old) }
     ensures unchanged { OnErr result (directory.new ≡ directory.old) }
 {
-    if has_name(&directory.first, name) {
-        change_in_part(alloc, &mut directory.first, name, change)?;
+    if has_name(&directory.parts.first, name) {
+        change_in_part(alloc, &mut directory.parts.first, name, change)?;
     } else {
-        change_among(alloc, &mut directory.more, name, change)?;
+        change_among(alloc, &mut directory.parts.more, name, change)?;
     }
     Ok(())
 }
@@ -190,14 +211,22 @@ pub(crate) fn touch(part: &mut OutlinePart)
     part.dirty = true;
 }
 
-/// Sets the last part of a directory, for the sake of its tail. Takes no memory.
+/// Sets the last of a first part and those behind it.
+fn touch_last_part(first: &mut OutlinePart, more: &mut Vec<OutlinePart>)
+    ensures { record { first = first.new; more = more.new.items } ≡ touch_last (record { first = first.old; more = more.old.items }) }
+{
+    match more.last_mut() {
+        Some(part) => touch(part),
+        None => touch(first),
+    }
+}
+
+/// Sets the last part of a directory, for the sake of its tail.
 pub(crate) fn touch_last(directory: &mut OutlineDirectory)
     ensures { directory.new ≡ touch_last directory.old }
 {
-    match directory.more.last_mut() {
-        Some(part) => touch(part),
-        None => touch(&mut directory.first),
-    }
+    let parts = &mut *directory.parts;
+    touch_last_part(&mut parts.first, &mut parts.more);
 }
 
 /// Sets a part, which takes up a delta. Takes no memory.
@@ -208,14 +237,22 @@ fn absorb_into(part: &mut OutlinePart, delta: &Delta)
     part.dirty = true;
 }
 
-/// Sets the last part of a directory, for the sake of its tail and of a delta that it takes up. Takes no memory.
+/// Sets the last of a first part and those behind it, which takes up a delta.
+fn absorb_last(first: &mut OutlinePart, more: &mut Vec<OutlinePart>, delta: &Delta)
+    ensures { record { first = first.new; more = more.new.items } ≡ absorb_in delta.now first.old more.old.items }
+{
+    match more.last_mut() {
+        Some(part) => absorb_into(part, delta),
+        None => absorb_into(first, delta),
+    }
+}
+
+/// Sets the last part of a directory, for the sake of its tail and of a delta that it takes up.
 fn absorb_in(directory: &mut OutlineDirectory, delta: &Delta)
     ensures { directory.new ≡ absorb_in delta.now directory.old.first directory.old.more }
 {
-    match directory.more.last_mut() {
-        Some(part) => absorb_into(part, delta),
-        None => absorb_into(&mut directory.first, delta),
-    }
+    let parts = &mut *directory.parts;
+    absorb_last(&mut parts.first, &mut parts.more, delta);
 }
 
 /// The deltas of parts together. Takes no memory.
@@ -233,6 +270,10 @@ fn delta_of_parts(parts: &[OutlinePart]) -> Delta
 pub(crate) fn absorb(directory: &mut OutlineDirectory, gone: &OutlineDirectory)
     ensures { directory.new ≡ absorb directory.old gone.now }
 {
-    let delta = gone.first.delta.joined(&delta_of_parts(&gone.more));
+    let delta = gone
+        .parts
+        .first
+        .delta
+        .joined(&delta_of_parts(&gone.parts.more));
     absorb_in(directory, &delta);
 }

@@ -9,7 +9,7 @@ ghost use Rattle.lfs_fs.specs.Tree.{entry_at, entry_in};
 ghost use Rattle.lfs_fs.specs.Volume.{Volume};
 ghost use Rattle.lfs_command.specs.AskedFor.{named_command};
 ghost use Rattle.lfs_command.specs.Command.{Grow, Mkdir, Mv, Put, Rm, RmAttr, SetAttr};
-ghost use Rattle.lfs_draft.specs.Editable.{IsEditable};
+ghost use Rattle.lfs_draft.specs.Editable.{IsEditable, NamesRise};
 ghost use Rattle.lfs_law.specs.EditedOutline.{edited_outline};
 ghost use Rattle.lfs_command.specs.Home.{home_of};
 ghost use Rattle.lfs_law.specs.HomeChecks.{home_checks};
@@ -26,9 +26,10 @@ use lfs_fs::{Outline, OutlineBody};
 use lfs_meta::{remove_attribute, set_attribute};
 use std::alloc::{AllocError, Global};
 
-/// Where the last name of a path belongs to. The caller owes that no check refuses that.
+/// Where the last name of a path belongs to. The caller owes that no check refuses that, and that names rise.
 pub(crate) fn home<'a>(outline: &Outline, path: &[&'a [u8]]) -> Home<'a>
-    requires { first_refusal (home_checks outline.now (map (λ n. n.now) path.now)) ≡ None }
+    requires unrefused { first_refusal (home_checks outline.now (map (λ n. n.now) path.now)) ≡ None }
+    requires rise { NamesRise outline.now.directories }
     ensures home { home_of outline.now (map (λ n. n.now) path.now) ≡ Some (result.pair, result.name.now) }
     ensures entry { entry_at outline.now (map (λ n. n.now) path.now) ≡ entry_in outline.now.directories result.pair result.name.now }
     ensures len { last_length (map (λ n. n.now) path.now) ≡ length result.name.now }

@@ -9,15 +9,14 @@ ghost use Rattle.lfs_fs.specs.Uses.{body_uses, directory_uses, entry_uses, part_
 ghost use Rattle.lfs_command.specs.AskedFor.{named_command};
 ghost use Rattle.lfs_command.specs.Freed.{content_uses, folder_uses, freed_uses, target_uses};
 ghost use Rattle.lfs_command.specs.Verdict.{first_refusal};
-ghost use Rattle.lfs_draft.specs.Editable.{IsEditable};
+ghost use Rattle.lfs_draft.specs.Editable.{IsEditable, NamesRise};
 ghost use Rattle.lfs_draft.specs.Freeing.{ListsMore};
 ghost use Rattle.lfs_law.specs.HomeChecks.{home_checks};
 
 use crate::editing::home;
+use crate::last_names::entry_in;
 use lfs_command::{Command, Named};
-use lfs_fs::{
-    Outline, OutlineBody, OutlineDirectory, OutlineEntry, OutlinePart, directory_at, entry_in,
-};
+use lfs_fs::{Outline, OutlineBody, OutlineDirectory, OutlineEntry, OutlinePart, directory_at};
 use std::alloc::{AllocError, Global};
 
 /// Lists the blocks of a chain.
@@ -71,8 +70,8 @@ fn list_parts(blocks: &mut Vec<u32>, parts: &[OutlinePart]) -> Result<(), AllocE
 fn list_directory(blocks: &mut Vec<u32>, directory: &OutlineDirectory) -> Result<(), AllocError>
     ensures { OnOk result (ListsMore blocks.old.items blocks.new.items (λ b. directory_uses b directory.now)) }
 {
-    list_part(blocks, &directory.first)?;
-    list_parts(blocks, &directory.more)?;
+    list_part(blocks, &directory.parts.first)?;
+    list_parts(blocks, &directory.parts.more)?;
     Ok(())
 }
 
@@ -94,18 +93,20 @@ fn list_target(
     Ok(())
 }
 
-/// The entry at a path, if there is one. The caller owes that no check refuses the walk there. Takes no memory.
+/// The entry at a path, if there is one. The caller owes that no check refuses the walk there, and that names rise. Takes no memory.
 fn entry_at<'a>(outline: &'a Outline, path: &[&[u8]]) -> Option<&'a OutlineEntry>
-    requires { first_refusal (home_checks outline.now (map (λ n. n.now) path.now)) ≡ None }
+    requires unrefused { first_refusal (home_checks outline.now (map (λ n. n.now) path.now)) ≡ None }
+    requires rise { NamesRise outline.now.directories }
     ensures { option_map (λ e. e.now) result ≡ entry_at outline.now (map (λ n. n.now) path.now) }
 {
     let home = home(outline, path);
     entry_in(&outline.directories, home.pair, home.name)
 }
 
-/// Lists the blocks of the file at a path, if there is one. The caller owes that no check refuses the walk there.
+/// Lists the blocks of the file at a path, if there is one. The caller owes that no check refuses the walk there, and that names rise.
 fn list_replaced(blocks: &mut Vec<u32>, outline: &Outline, path: &[&[u8]]) -> Result<(), AllocError>
-    requires { first_refusal (home_checks outline.now (map (λ n. n.now) path.now)) ≡ None }
+    requires unrefused { first_refusal (home_checks outline.now (map (λ n. n.now) path.now)) ≡ None }
+    requires rise { NamesRise outline.now.directories }
     ensures { OnOk result (ListsMore blocks.old.items blocks.new.items (λ b. content_uses outline.now (map (λ n. n.now) path.now) b)) }
 {
     let Some(entry) = entry_at(outline, path) else {
@@ -115,9 +116,10 @@ fn list_replaced(blocks: &mut Vec<u32>, outline: &Outline, path: &[&[u8]]) -> Re
     Ok(())
 }
 
-/// Lists the blocks of the file or the directory at a path, if there is one. The caller owes that no check refuses the walk there.
+/// Lists the blocks of the file or the directory at a path, if there is one. The caller owes that no check refuses the walk there, and that names rise.
 fn list_removed(blocks: &mut Vec<u32>, outline: &Outline, path: &[&[u8]]) -> Result<(), AllocError>
-    requires { first_refusal (home_checks outline.now (map (λ n. n.now) path.now)) ≡ None }
+    requires unrefused { first_refusal (home_checks outline.now (map (λ n. n.now) path.now)) ≡ None }
+    requires rise { NamesRise outline.now.directories }
     ensures { OnOk result (ListsMore blocks.old.items blocks.new.items (λ b. content_uses outline.now (map (λ n. n.now) path.now) b + target_uses outline.now (map (λ n. n.now) path.now) b)) }
 {
     let Some(entry) = entry_at(outline, path) else {

@@ -2,6 +2,7 @@
 
 ghost use Rattle.std.specs.Prelude.{◌≡◌, None, Some, map, IfOk, IfErr, OnErr, OnOk};
 ghost use Rattle.lfs_command.specs.Home.{home_of};
+ghost use Rattle.lfs_draft.specs.Editable.{NamesRise};
 ghost use Rattle.lfs_law.specs.HomeChecks.{home_checks};
 ghost use Rattle.lfs_command.specs.Verdict.{first_refusal};
 
@@ -19,8 +20,9 @@ pub(crate) struct Home<'a> {
 }
 
 /// Where the last name of a path belongs to: `IsRoot` where the path is the root's, else what the walk to its last name is
-/// refused for.
+/// refused for. The caller owes that names rise.
 pub(crate) fn home_of<'a>(outline: &Outline, names: &[&'a [u8]]) -> Result<Home<'a>, Refusal>
+    requires { NamesRise outline.now.directories }
     ensures home { IfOk result (λ home. home_of outline.now (map (λ n. n.now) names.now) ≡ Some (home.pair, home.name.now)) }
     ensures unrefused { OnOk result (first_refusal (home_checks outline.now (map (λ n. n.now) names.now)) ≡ None) }
     ensures refused { IfErr result (λ r. first_refusal (home_checks outline.now (map (λ n. n.now) names.now)) ≡ Some r) }

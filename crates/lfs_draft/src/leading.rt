@@ -2,15 +2,18 @@
 
 ghost use Rattle.std.specs.Prelude.{◌≡◌, find, map};
 ghost use Rattle.std.specs.Option.{option_map};
-ghost use Rattle.lfs_fs.specs.Directory.{parts};
+ghost use Rattle.lfs_fs.specs.Directory.{entries, parts};
+ghost use Rattle.lfs_fs.specs.Sound.{Rise};
+ghost use Rattle.lfs_draft.specs.Editable.{NamesRise};
 ghost use Rattle.lfs_command.specs.AskedFor.{named_command};
 ghost use Rattle.lfs_command.specs.DirectoryEdit.{has_name};
 ghost use Rattle.lfs_command.specs.Leading.{leading_pair, pair_in, path_of};
 
 use crate::directory_edit::has_name;
 use crate::home::home_of;
+use crate::last_names::{comes_last, last_part};
 use lfs_command::{Command, Named};
-use lfs_fs::{Outline, OutlineDirectory, OutlinePart, directory_at};
+use lfs_fs::{Outline, OutlineDirectory, OutlinePart, directory_at, names_are_ordered};
 
 /// The first of these parts that has an entry of a name. Takes no memory.
 fn part_among<'a>(parts: &'a [OutlinePart], name: &[u8]) -> Option<&'a OutlinePart>
@@ -19,19 +22,30 @@ fn part_among<'a>(parts: &'a [OutlinePart], name: &[u8]) -> Option<&'a OutlinePa
     parts.iter().find(|part| has_name(part, name))
 }
 
-/// The first part of a directory that has an entry of a name. Takes no memory.
+/// The first part of a directory that has an entry of a name. The caller owes that its names rise. Takes no memory, and no time to speak of where
+/// the name is in the last part, or new behind all others.
 fn part_in<'a>(directory: &'a OutlineDirectory, name: &[u8]) -> Option<&'a OutlinePart>
+    requires { Rise (entries directory.now) }
     ensures { option_map (λ p. p.now) result ≡ find (has_name name.now) (parts directory.now) }
 {
-    if has_name(&directory.first, name) {
-        Some(&directory.first)
+    names_are_ordered();
+    if comes_last(directory, name) {
+        return None;
+    }
+    let last = last_part(directory);
+    if has_name(last, name) {
+        return Some(last);
+    }
+    if has_name(&directory.parts.first, name) {
+        Some(&directory.parts.first)
     } else {
-        part_among(&directory.more, name)
+        part_among(&directory.parts.more, name)
     }
 }
 
-/// The pair of the part of a directory that has an entry of a name. Takes no memory.
+/// The pair of the part of a directory that has an entry of a name. The caller owes that its names rise. Takes no memory.
 fn pair_in(directory: &OutlineDirectory, name: &[u8]) -> Option<(u32, u32)>
+    requires { Rise (entries directory.now) }
     ensures { result ≡ pair_in name.now directory.now }
 {
     let part = part_in(directory, name)?;
@@ -53,10 +67,12 @@ fn path_of<'b, 'a>(command: &'b Named<'a>) -> &'b [&'a [u8]]
     }
 }
 
-/// The pair of the part that has the entry at a command's path; none where nothing is there. Takes no memory.
+/// The pair of the part that has the entry at a command's path; none where nothing is there. The caller owes that the names of each directory
+/// rise. Takes no memory.
 ///
 /// Source: own.
 pub fn leading_pair(outline: &Outline, command: &Named<'_>) -> Option<(u32, u32)>
+    requires { NamesRise outline.now.directories }
     ensures { result ≡ leading_pair outline.now (named_command command.now) }
 {
     let home = home_of(outline, path_of(command)).ok()?;

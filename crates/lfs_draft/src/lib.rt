@@ -8,8 +8,10 @@ mod editing;
 mod entry_change;
 mod entry_edit;
 mod freeing;
+mod front;
 mod home;
 mod judging;
+mod last_names;
 mod leading;
 mod reaching;
 mod standing;
@@ -21,6 +23,7 @@ mod walking;
 
 pub use editing::edit;
 pub use freeing::freed_blocks;
+pub use front::count_in_front;
 pub use judging::judge;
 pub use leading::leading_pair;
 pub use reaching::reach;

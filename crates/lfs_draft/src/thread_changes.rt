@@ -10,14 +10,15 @@ ghost use Rattle.lfs_fs.specs.OutlineHeld.{outline_body_held};
 ghost use Rattle.lfs_fs.specs.Tree.{entry_in};
 ghost use Rattle.lfs_fs.specs.Volume.{Volume};
 ghost use Rattle.lfs_command.specs.Edited.{drop_target, empty_directory, new_entry, put_file, renamed, with_directories};
-ghost use Rattle.lfs_draft.specs.Editable.{BeginOnce, NamedOnce};
+ghost use Rattle.lfs_draft.specs.Editable.{BeginOnce, NamedOnce, NamesRise};
 ghost use Rattle.lfs_command.specs.ThreadEdit.{add_after, link, unlink};
 
 use crate::copying::renamed;
 use crate::entry_change::EntryChange;
 use crate::home::Home;
+use crate::last_names::entry_in;
 use crate::thread_edit::{add_after, change, drop_directory, link, unlink};
-use lfs_fs::{Delta, OutlineBody, OutlineDirectory, OutlineEntry, OutlinePart, entry_in};
+use lfs_fs::{Delta, OutlineBody, OutlineDirectory, OutlineEntry, OutlinePart};
 use std::alloc::{AllocError, Global};
 
 /// An entry without attributes. The caller owes a name of at most 1,022 bytes, and a body that fits into a tag.
@@ -35,19 +36,17 @@ pub fn new_entry(alloc: Global, name: &[u8], body: OutlineBody) -> Result<Outlin
     })
 }
 
-/// A directory without entries. Takes no memory.
-fn empty_directory(alloc: Global, pair: (u32, u32)) -> OutlineDirectory
-    ensures { result ≡ empty_directory pair }
+/// A directory without entries.
+fn empty_directory(alloc: Global, pair: (u32, u32)) -> Result<OutlineDirectory, AllocError>
+    ensures { IfOk result (λ directory. directory ≡ empty_directory pair) }
 {
-    OutlineDirectory {
-        first: OutlinePart {
-            pair,
-            entries: Vec::new(alloc),
-            delta: Delta::none(),
-            dirty: true,
-        },
-        more: Vec::new(alloc),
-    }
+    let part = OutlinePart {
+        pair,
+        entries: Vec::new(alloc),
+        delta: Delta::none(),
+        dirty: true,
+    };
+    OutlineDirectory::new(alloc, part, Vec::new(alloc))
 }
 
 /// Puts a new directory under a name, and into the thread behind the directory that has the name.
@@ -58,13 +57,14 @@ pub(crate) fn make_directory(
     pair: (u32, u32),
 ) -> Result<(), AllocError>
     requires once { BeginOnce directories.old.items }
+    requires rise { NamesRise directories.old.items }
     requires name { length home.name.now < 1023 }
     ensures { OnOk result (directories.new.items
         ≡ add_after home.entry.pair (empty_directory pair) (link home.entry.pair (new_entry home.entry.name.now (Directory_at pair)) directories.old.items)) }
 {
     let entry = new_entry(alloc, home.name, OutlineBody::Directory(pair.0, pair.1))?;
     link(directories, home.pair, entry)?;
-    add_after(directories, home.pair, empty_directory(alloc, pair))?;
+    add_after(directories, home.pair, empty_directory(alloc, pair)?)?;
     Ok(())
 }
 
@@ -77,6 +77,7 @@ pub(crate) fn put_file(
 ) -> Result<(), AllocError>
     requires once { BeginOnce directories.old.items }
     requires named { NamedOnce directories.old.items }
+    requires rise { NamesRise directories.old.items }
     requires name { length home.name.now < 1023 }
     requires body { BodyFits (stored_body (outline_body_held body)) }
     ensures { OnOk result ((v : Volume) → v.directories ≡ directories.old.items
@@ -98,8 +99,9 @@ pub(crate) fn put_file(
     Ok(())
 }
 
-/// The directory that the entry of a name leads to. Takes no memory.
+/// The directory that the entry of a name leads to. The caller owes that names rise. Takes no memory.
 pub(crate) fn target_of(directories: &[OutlineDirectory], home: Home<'_>) -> Option<(u32, u32)>
+    requires { NamesRise directories.now }
     ensures { result ≡ option_and_then target (entry_in directories.now home.entry.pair home.entry.name.now) }
 {
     entry_in(directories, home.pair, home.name)?.target()
@@ -120,13 +122,14 @@ pub(crate) fn remove(
     }
 }
 
-/// A copy of the entry of a name under another name. The caller owes that it is there, and another name of at most 1,022 bytes.
+/// A copy of the entry of a name under another name. The caller owes that it is there, that names rise, and another name of at most 1,022 bytes.
 fn copied(
     alloc: Global,
     directories: &[OutlineDirectory],
     home: Home<'_>,
     name: &[u8],
 ) -> Result<OutlineEntry, AllocError>
+    requires rise { NamesRise directories.now }
     requires there { (e : Entry) × (entry_in directories.now home.pair home.name.now ≡ Some e) }
     requires name { length name.now < 1023 }
     ensures { IfOk result (λ copy. (e : Entry) → entry_in directories.now home.entry.pair home.entry.name.now ≡ Some e → copy ≡ renamed name.now e) }
@@ -137,8 +140,8 @@ fn copied(
     }
 }
 
-/// Takes the entry of a name out, and puts it under another name. The caller owes that it is there, and another name of at most
-/// 1,022 bytes.
+/// Takes the entry of a name out, and puts it under another name. The caller owes that it is there, that names rise, and another name of at
+/// most 1,022 bytes.
 pub(crate) fn move_entry(
     alloc: Global,
     directories: &mut Vec<OutlineDirectory>,
@@ -146,6 +149,7 @@ pub(crate) fn move_entry(
     to: Home<'_>,
 ) -> Result<(), AllocError>
     requires once { BeginOnce directories.old.items }
+    requires rise { NamesRise directories.old.items }
     requires there { (e : Entry) × (entry_in directories.old.items from.pair from.name.now ≡ Some e) }
     requires name { length to.name.now < 1023 }
     ensures { OnOk result ((e : Entry) → entry_in directories.old.items from.entry.pair from.entry.name.now ≡ Some e

@@ -5,6 +5,7 @@ ghost use Rattle.std.specs.List.{position};
 ghost use Rattle.lfs_fs.specs.Directory.{begins_at, entries};
 ghost use Rattle.lfs_fs.specs.Entry.{is_named};
 ghost use Rattle.lfs_command.specs.DirectoryEdit.{touch};
+ghost use Rattle.lfs_draft.specs.Editable.{NamesRise};
 ghost use Rattle.lfs_draft.specs.EntryChange.{ChangeFits, entry_change};
 ghost use Rattle.lfs_command.specs.ThreadEdit.{add_after, change as change_at, drop_directory, link, touch_first, unlink};
 
@@ -22,14 +23,15 @@ pub(crate) fn directory_of(directories: &[OutlineDirectory], pair: (u32, u32)) -
         .position(|directory| directory.begins_at(pair))
 }
 
-/// Puts an entry into the directory of a pair. The caller owes that no two directories begin there. Want of memory changes
+/// Puts an entry into the directory of a pair. The caller owes that no two directories begin there, and that names rise. Want of memory changes
 /// nothing.
 pub(crate) fn link(
     directories: &mut Vec<OutlineDirectory>,
     pair: (u32, u32),
     entry: OutlineEntry,
 ) -> Result<(), AllocError>
-    requires { count_by (begins_at pair) directories.old.items ≤ 1 }
+    requires one { count_by (begins_at pair) directories.old.items ≤ 1 }
+    requires rise { NamesRise directories.old.items }
     ensures linked { OnOk result (directories.new.items ≡ link pair entry directories.old.items) }
     ensures unchanged { OnErr result (directories.new.items ≡ directories.old.items) }
 {
@@ -107,7 +109,7 @@ pub(crate) fn drop_directory(directories: &mut Vec<OutlineDirectory>, pair: (u32
 fn touch_first_part(directory: &mut OutlineDirectory)
     ensures { directory.new ≡ record { first = touch true (λ es. es) directory.old.first; more = directory.old.more } }
 {
-    touch(&mut directory.first);
+    touch(&mut directory.parts.first);
 }
 
 /// Sets the first part of all, for the sake of the root's attributes. Takes no memory.

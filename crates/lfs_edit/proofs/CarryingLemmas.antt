@@ -14,11 +14,11 @@ use Rattle.lfs_fs.specs.Reading.{reading_of}
 use Rattle.lfs_fs.specs.Holds.{Holds}
 use Rattle.lfs_fs.specs.Stored.{SaysVolume}
 use Rattle.lfs_fs.specs.Thread.{links}
-use Rattle.lfs_fs.specs.Uses.{uses}
+use Rattle.lfs_fs.specs.Uses.{times, uses}
 use Rattle.lfs_fs.specs.Volume.{Volume}
 use Rattle.lfs_command.specs.Accepted.{AreChosen, Follows, IsAccepted}
 use Rattle.lfs_draft.specs.LeastSupplies.{made_blocks}
-use Rattle.lfs_edit.specs.Carried.{IsCutOver, IsFinished, IsReady, WritesOver, supplies_of}
+use Rattle.lfs_edit.specs.Carried.{IsCarriedOut, IsCutOver, IsCutReady, IsFinished, IsReady, WritesOver, supplies_of}
 use Rattle.lfs_edit.specs.CarryingLaws.{CarryingLaws}
 use Rattle.lfs_command.specs.Clean.{clean, cleaned}
 use Rattle.lfs_command.specs.Command.{Asked, Command, Spells}
@@ -26,6 +26,7 @@ use Rattle.lfs_command.specs.Cut.{cut, new_pair_uses}
 use Rattle.lfs_law.specs.CutOutline.{for_parts}
 use Rattle.lfs_command.specs.DirectoryEdit.{each_part}
 use Rattle.lfs_command.specs.Edited.{edited}
+use Rattle.lfs_command.specs.Freed.{freed_uses}
 use Rattle.lfs_command.specs.Growth.{count_after, grown}
 use Rattle.lfs_command.specs.Need.{data_blocks, is_new_to, need}
 use Rattle.lfs_command.specs.Ordered.{TakesInOrder, blocks_chosen, leader, overflowing_led}
@@ -84,11 +85,11 @@ pub record IsTaken (v : Volume) (c : Command) (chosen : Part → List Pair) (w :
   pub pairs : AreChosen v c (supplies_of v c) chosen
   pub same : outlined (cut chosen (edited v c (supplies_of v c))) ≡ w
 
-pub taken_of : (laws : CarryingLaws) (d : Disk) (c : Command) (used : List Bool) (blocks : List ℕ) (o w : Volume)
-    (ready : IsReady d c used blocks o)
-    (cuts : IsCutOver (leader ready.volume c (supplies_of ready.volume c)) o (drop (made_blocks ready.volume c) blocks) w)
-    → IsTaken ready.volume c (for_parts cuts.chosen) w
-taken_of laws d c used blocks o w ready cuts = record {
+pub taken_of : (laws : CarryingLaws) (v : Volume) (c : Command) (used : List Bool) (blocks : List ℕ) (o w : Volume)
+    (ready : IsReady v c used blocks o)
+    (cuts : IsCutOver (leader v c (supplies_of v c)) o (drop (made_blocks v c) blocks) w)
+    → IsTaken v c (for_parts cuts.chosen) w
+taken_of laws v c used blocks o w ready cuts = record {
   ordered = ordered;
   taken = taken;
   accepted = accepted;
@@ -96,9 +97,6 @@ taken_of laws d c used blocks o w ready cuts = record {
   same = carried.after ∙ sym cuts.is;
 }
   where
-    v : Volume
-    v = ready.volume
-
     s : Supplies
     s = supplies_of v c
 
@@ -131,13 +129,49 @@ taken_of laws d c used blocks o w ready cuts = record {
         : AreFree v c s
         × ((b : ℕ) → uses b v + supply_uses v c s b + new_pair_uses chosen (edited v c s) b ≤ 1)
         × ((b : ℕ) → 0 < new_pair_uses chosen (edited v c s) b → b < count_after c v.count)
-    free = laws.least v c s chosen ready.sound taken
+    free = laws.least v c s chosen ready.holdable.sound taken
 
     accepted : IsAccepted v c s
-    accepted = record { sound = ready.sound; names = ready.names; free = free.0; unrefused = ready.unrefused }
+    accepted = record { sound = ready.holdable.sound; names = ready.names; free = free.0; unrefused = ready.unrefused }
 
     pairs : AreChosen v c s chosen
     pairs = record { enough = carried.enough cuts.are.enough; once = free.1; within = free.2 }
+
+-- ---- the command is carried out
+
+-- it leads to what is cut, without marks
+carries : (v : Volume) (c : Command) (used : List Bool) (blocks : List ℕ) (o w : Volume) (chosen : Part → List Pair)
+    → IsReady v c used blocks o → IsTaken v c chosen w → CarriesOut c v (clean (cut chosen (edited v c (supplies_of v c))))
+carries v c used blocks o w chosen ready all = record {
+  supplies = supplies_of v c;
+  blocks = length-take-le (data_blocks v c) (free_blocks (grown c v)) (omega (arith, within_need v c, enough_free v c ready.unrefused));
+  accepted = all.accepted;
+  chosen = chosen;
+  pairs = all.pairs;
+  ordered = all.ordered;
+  is = refl;
+}
+
+pub carried_out : (laws : CarryingLaws) (v : Volume) (c : Command) (used : List Bool) (blocks gone : List ℕ) (o w : Volume) → o ≡ outlined v
+    → IsCutReady v c used blocks w → ((b : ℕ) → times b gone ≡ freed_uses o c b) → IsCarriedOut v c blocks gone (clean w)
+unfolding carries
+carried_out laws v c used blocks gone o w is cut' freed = record {
+  after = clean after;
+  carried = carries v c used blocks cut'.before w chosen cut'.ready all;
+  supplies = refl;
+  leaves = ap clean (sym all.same) ∙ sym (outlined_clean after);
+  taken = cut'.ready.least;
+  gone = λ b. freed b ∙ ap (λ (x : Volume). freed_uses x c b) is ∙ (laws.judged v c).freed b;
+}
+  where
+    chosen : Part → List Pair
+    chosen = for_parts cut'.cuts.chosen
+
+    all : IsTaken v c chosen w
+    all = taken_of laws v c used blocks cut'.before w cut'.ready cut'.cuts
+
+    after : Volume
+    after = cut chosen (edited v c (supplies_of v c))
 
 -- What is known of an image and the patch that is written over it: the image is lengthened for a command, and holds the volume's parts.
 pub record IsLong (d : Disk) (v : Volume) (c : Command) (p : ChangeSet) : Type 0 where
@@ -148,24 +182,14 @@ pub record IsLong (d : Disk) (v : Volume) (c : Command) (p : ChangeSet) : Type 0
   pub parts : HoldsParts (reading_of (resized p.after d)) (grown c v) (volume_bytes v)
   pub same : applied (kept p) (resized p.after d) ≡ applied p d
 
-pub finish : (laws : CarryingLaws) (d : Disk) (c : Command) (used : List Bool) (blocks : List ℕ) (o w : Volume) (p : ChangeSet)
-    → (ready : IsReady d c used blocks o)
-    → IsCutOver (leader ready.volume c (supplies_of ready.volume c)) o (drop (made_blocks ready.volume c) blocks) w
-    → IsLong d ready.volume c p → SaysVolume w (volume_bytes w)
-    → WritesOver (resized p.after d) ready.volume c used w (kept p) → IsFinished d c p (clean w)
-finish laws d c used blocks o w p ready cuts long says writes = record {
-  plans = plans;
-  outline = outline;
-  before = v;
-  holds = ready.holds;
-  after = clean after;
-  carried = carried;
-  leaves = leaves;
-}
+pub finish : (laws : CarryingLaws) (d : Disk) (c : Command) (used : List Bool) (blocks : List ℕ) (v o w : Volume) (p : ChangeSet)
+    → Holds (reading_of d) v → (ready : IsReady v c used blocks o)
+    → IsCutOver (leader v c (supplies_of v c)) o (drop (made_blocks v c) blocks) w
+    → IsLong d v c p → SaysVolume w (volume_bytes w)
+    → WritesOver (resized p.after d) v c used w (kept p) → IsFinished d c p (clean w)
+unfolding carries
+finish laws d c used blocks v o w p held ready cuts long says writes = record { plans = plans; outline = outline }
   where
-    v : Volume
-    v = ready.volume
-
     e : Disk
     e = resized p.after d
 
@@ -176,7 +200,7 @@ finish laws d c used blocks o w p ready cuts long says writes = record {
     chosen = for_parts cuts.chosen
 
     all : IsTaken v c chosen w
-    all = taken_of laws d c used blocks o w ready cuts
+    all = taken_of laws v c used blocks o w ready cuts
 
     taken : TakesLeast v c s chosen
     taken = all.taken
@@ -247,26 +271,14 @@ finish laws d c used blocks o w p ready cuts long says writes = record {
     frugal : IsFrugal v c s (changed_blocks p.changes)
     frugal = laws.frugal e v c s chosen (volume_bytes v) new writes.base (kept p) accepted pairs taken writes.contents volume
 
-    carried : CarriesOut c v (clean after)
-    carried = record {
-      supplies = s;
-      blocks = length-take-le (data_blocks v c) (free_blocks (grown c v)) (omega
-          (arith, within_need v c, enough_free v c ready.unrefused));
-      accepted = accepted;
-      chosen = chosen;
-      pairs = pairs;
-      ordered = all.ordered;
-      is = refl;
-    }
-
     plans : (asked : Asked) → Spells asked c → Plans d asked p
     plans asked spells = record {
       volume = v;
-      holds = ready.holds;
+      holds = held;
       command = c;
       spells = spells;
       next = clean after;
-      carried = carried;
+      carried = carries v c used blocks o w chosen ready all;
       patch = long.growth;
       stands = long.stands;
       count = long.count;

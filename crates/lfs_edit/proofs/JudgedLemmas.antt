@@ -1,32 +1,36 @@
 -- A command that no check refuses, those on room aside: it can be edited, and then is refused for want of room, or ready to be cut.
 use Rattle.std.proofs.Common.{◌≡◌, ◌+◌, ◌<◌, ◌^◌, ◌&&◌, ℕ, Bool, false, List, [], ◌∷◌, length, map, take, refl, ap, sym, ◌∙◌, subst}
 use Rattle.std.proofs.Common.{arith, inl, inr, Option, Some, None}
-use Rattle.std.specs.Prelude.{◌⊎◌, Contains, is_none, nat_lt, sum_by}
+use Rattle.std.specs.Prelude.{◌⊎◌, All, Contains, is_none, nat_lt, sum_by}
 use Rattle.std.specs.Option.{option_or}
 use Rattle.std.proofs.lemmas.Bool.Decides.{nat_tests}
 use Rattle.std.proofs.lemmas.List.{take_all}
+use Rattle.std.proofs.lemmas.List.Elements.{All-map}
 use Rattle.lfs_block.specs.Disk.{Disk, IsDisk}
 use Rattle.lfs_block.specs.Geometry.{IsGeometry}
 use Rattle.lfs_meta.specs.Body.{Pair}
+use Rattle.lfs_fs.specs.Directory.{Part, thread}
 use Rattle.lfs_fs.specs.Free.{free_blocks}
 use Rattle.lfs_fs.specs.Holds.{Holds}
 use Rattle.lfs_fs.specs.Mounted.{IsOutlineOf}
 use Rattle.lfs_fs.specs.NameOrder.{NamesAreOrdered}
-use Rattle.lfs_fs.specs.Outlined.{outlined}
+use Rattle.lfs_fs.specs.Outlined.{outlined, outlined_part}
 use Rattle.lfs_fs.specs.Pair.{root, same_pair}
 use Rattle.lfs_fs.specs.Path.{Path}
 use Rattle.lfs_fs.specs.Reading.{reading_of}
 use Rattle.lfs_fs.specs.Sound.{IsSound}
 use Rattle.lfs_fs.specs.SoundOutlines.{OutlinesAreSound}
-use Rattle.lfs_fs.specs.Stored.{HoldsLinks}
+use Rattle.lfs_fs.specs.Stored.{HeldAreHeldByLinks}
 use Rattle.lfs_fs.specs.Superblock.{IsLimits}
 use Rattle.lfs_fs.specs.Tree.{tree}
+use Rattle.lfs_fs.specs.Table.{IsTableOf}
 use Rattle.lfs_fs.specs.Unused.{unused}
 use Rattle.lfs_fs.specs.Used.{Marks}
 use Rattle.lfs_fs.specs.Uses.{uses}
 use Rattle.lfs_fs.specs.Volume.{Volume}
 use Rattle.lfs_fs.proofs.ContainsLemmas.{contains_first}
-use Rattle.lfs_fs.proofs.OutlinedLemmas.{outlined_uses, outlined_free}
+use Rattle.lfs_fs.proofs.UnusedLemmas.{unused_free}
+use Rattle.lfs_fs.proofs.OutlinedLemmas.{outlined_free, outlined_thread, outlined_uses}
 use Rattle.lfs_command.specs.AskedFor.{OnNames, contents_len, named_command}
 use Rattle.lfs_command.specs.declared.command.Command.TheVariants as case
 use Rattle.lfs_command.specs.declared.refusal.Refusal.{Refusal}
@@ -34,10 +38,11 @@ use Rattle.lfs_command.specs.declared.refusal.Refusal.TheVariants.{EntryTooLarge
 use Rattle.lfs_command.specs.declared.refusal.Refusal.TheVariants.{NoSpace}
 use Rattle.lfs_draft.specs.LeastSupplies.{least_pair, least_supplies, made_blocks}
 use Rattle.lfs_cut.specs.RoomChecks.{room_checks_on}
-use Rattle.lfs_edit.specs.Carried.{IsJudged, IsLed, IsReady, IsRefusedBy, IsUnweighed, supplies_of}
+use Rattle.lfs_edit.specs.Carried.{IsHoldable, IsJudged, IsLed, IsOutlined, IsReady, IsRefusedBy, IsUnweighed, supplies_of}
 use Rattle.lfs_edit.specs.CarryingLaws.{CarryingLaws}
+use Rattle.lfs_command.specs.Clean.{IsClean}
 use Rattle.lfs_command.specs.Command.{Asked, Command, Grow, Mkdir, Mv, Put, Rm, RmAttr, SetAttr, Spells}
-use Rattle.lfs_draft.specs.Editable.{IsEditable}
+use Rattle.lfs_draft.specs.Editable.{IsEditable, NamesRise}
 use Rattle.lfs_command.specs.Edited.{edited}
 use Rattle.lfs_law.specs.EditedOutline.{edited_outline}
 use Rattle.lfs_command.specs.Growth.{grown}
@@ -48,6 +53,7 @@ use Rattle.lfs_law.specs.CountsGrow.{CountsGrow}
 use Rattle.lfs_law.specs.NeedsSmall.{HeldHaveFewEntries, NeedsAreSmall}
 use Rattle.lfs_law.specs.OutlineCarried.{IsCarried, has_too_large}
 use Rattle.lfs_law.specs.JudgedAlike.{OutlinesAreJudgedAlike}
+use Rattle.lfs_law.specs.Written.{HeldAreClean}
 use Rattle.lfs_command.specs.Planned.{RefusesPlan}
 use Rattle.lfs_command.specs.Supplies.{nothing}
 use Rattle.lfs_command.specs.Verdict.{checks, first_refusal, is_directory, is_root, last_length, refuse_if, room_checks, verdict}
@@ -65,6 +71,12 @@ use Rattle.lfs_edit.proofs.Verdicts.{refused_first, passed_first}
 -- ---- checks that refuse
 
 -- a check that refuses on the outline does so on the volume
+pub judged_on : OutlinesAreJudgedAlike → (v : Volume) (c : Command) (o : Volume) → o ≡ outlined v → (r : Refusal)
+    → first_refusal (checks o c) ≡ Some r → verdict v c ≡ Some r
+judged_on alike v c o is r refused =
+    refused_first (checks v c) (room_checks v c) r
+    (ap first_refusal (sym (alike v c).checked) ∙ ap (λ (x : Volume). first_refusal (checks x c)) (sym is) ∙ refused)
+
 pub refused_on : OutlinesAreJudgedAlike → (d : Disk) (o : Volume) → IsOutlineOf d o → (asked : Asked) (c : Command) → Spells asked c
     → (r : Refusal) → first_refusal (checks o c) ≡ Some r → RefusesPlan d asked r
 refused_on alike d o is asked c spells r refused =
@@ -74,8 +86,7 @@ refused_on alike d o is asked c spells r refused =
       sound = is.sound;
       command = c;
       spells = spells;
-      refused = refused_first (checks is.volume c) (room_checks is.volume c) r
-          (ap first_refusal (sym (alike is.volume c).checked) ∙ ap (λ (v : Volume). first_refusal (checks v c)) (sym is.outline) ∙ refused);
+      refused = judged_on alike is.volume c o is.outline r refused;
     })
 
 -- want of memory may be answered to any command
@@ -89,36 +100,49 @@ may_be_refused d c r (inr refused) = refused
 pub limits_held : (d : Disk) (v : Volume) → Holds (reading_of d) v → IsLimits v.limits
 limits_held d v holds = subst (λ (x : Volume). IsLimits x.limits) (sym holds.is) holds.limits
 
-pub editable : OutlinesAreSound → CarryingLaws → NamesAreOrdered → (d : Disk) (c : Command) (o : Volume) → IsJudged d c o → IsEditable o c
-editable sound laws ordered d c o judged = record {
-  sound = outline_sound;
-  limits = subst (λ (x : Volume). IsLimits x.limits) (sym is) (limits_held d v judged.outline.holds);
+-- a sound volume that an image holds is one as images hold it
+pub holdable : HeldAreClean → HeldAreHeldByLinks → HeldHaveFewEntries → (d : Disk) → IsDisk d → (v : Volume) → IsSound v → Holds (reading_of d) v
+    → IsHoldable v
+holdable marks by_links few d disk v sound holds =
+    let held = by_links (reading_of d) v holds in
+    record {
+      sound = sound;
+      clean = marks (reading_of d) v held;
+      limits = limits_held d v holds;
+      fits = subst (λ (k : ℕ). IsGeometry k v.count) (sym held.size) (subst (IsGeometry d.size) (sym held.count) disk.geometry);
+      few = few d v disk holds;
+    }
+
+-- the outline of such a volume is sound
+pub outline_sound : OutlinesAreSound → (v o : Volume) → IsOutlined v o → IsSound o
+outline_sound sound v o is = subst IsSound (sym is.outline) (sound v is.holdable.sound)
+
+-- the names of each of its directories rise
+pub names_rise : OutlinesAreSound → (v o : Volume) → IsOutlined v o → NamesRise o.directories
+names_rise sound v o is = (outline_sound sound v o is).order
+
+-- no part of it is marked
+pub clean_outline : (v o : Volume) → IsOutlined v o → IsClean o
+clean_outline v o is = subst IsClean (sym is.outline)
+    (subst (All (λ p. p.dirty ≡ false)) (sym (outlined_thread v.directories))
+    (All-map (λ (p : Part). p.dirty ≡ false) outlined_part (thread v.directories) is.holdable.clean))
+
+pub editable : OutlinesAreSound → NamesAreOrdered → (v : Volume) (c : Command) (o : Volume) → IsJudged v c o → IsEditable o c
+editable sound ordered v c o judged = record {
+  sound = outline_sound sound v o judged.is;
+  limits = subst (λ (x : Volume). IsLimits x.limits) (sym judged.is.outline) judged.is.holdable.limits;
   names = judged.names;
   unrefused = judged.unrefused;
-  begins = begin_once o outline_sound;
-  named = each_named_once o ordered outline_sound;
+  begins = begin_once o (outline_sound sound v o judged.is);
+  named = each_named_once o ordered (outline_sound sound v o judged.is);
 }
-  where
-    v : Volume
-    v = judged.outline.volume
-
-    is : o ≡ outlined v
-    is = judged.outline.outline
-
-    outline_sound : IsSound o
-    outline_sound = subst IsSound (sym is) (sound v judged.outline.sound)
 
 -- the outline with as many blocks as the command leaves
-pub long_sound : CountsGrow → OutlinesAreSound → CarryingLaws → NamesAreOrdered → (d : Disk) → IsDisk d → (c : Command) (o : Volume)
-    → IsJudged d c o → IsSound (grown c o)
-long_sound grow sound laws ordered d disk c o judged =
-    let v : Volume = judged.outline.volume in
-    let held = laws.by_links (reading_of d) v judged.outline.holds in
-    let size : o.size ≡ d.size = ap (λ (x : Volume). x.size) judged.outline.outline ∙ held.size in
-    let count : o.count ≡ d.count = ap (λ (x : Volume). x.count) judged.outline.outline ∙ held.count in
-    let fits : IsGeometry o.size o.count = subst (λ (k : ℕ). IsGeometry k o.count) (sym size)
-    (subst (IsGeometry d.size) (sym count) disk.geometry) in
-    grown_sound o c (editable sound laws ordered d c o judged).sound (grow o c fits judged.unrefused).1
+pub long_sound : CountsGrow → OutlinesAreSound → (v : Volume) (c : Command) (o : Volume) → IsJudged v c o → IsSound (grown c o)
+long_sound grow sound v c o judged =
+    let fits : IsGeometry o.size o.count = subst (λ (x : Volume). IsGeometry x.size x.count) (sym judged.is.outline)
+    judged.is.holdable.fits in
+    grown_sound o c (outline_sound sound v o judged.is) (grow o c fits judged.unrefused).1
 
 -- the contents that are put have less than 2^32 bytes, since no file is longer than its limit
 put_short : (o : Volume) (p : Path) (bytes : List ℕ) → IsLimits o.limits → first_refusal (checks o (Put p bytes)) ≡ None
@@ -133,14 +157,18 @@ put_short o p bytes limits passes =
     let limit = limits.file.1 in
     grind (arith, nat_tests)
 
+pub accepted_short : (o : Volume) (c : OnNames) → IsLimits o.limits → first_refusal (checks o (named_command c)) ≡ None
+    → contents_len c < 2 ^ 32
+accepted_short o (case.Mkdir path) limits passes = omega arith
+accepted_short o (case.Put path bytes) limits passes = put_short o (map (λ n. n.now) path.items) bytes.now limits passes
+accepted_short o (case.Rm path) limits passes = omega arith
+accepted_short o (case.Mv from to) limits passes = omega arith
+accepted_short o (case.SetAttr path kind value) limits passes = omega arith
+accepted_short o (case.RmAttr path kind) limits passes = omega arith
+accepted_short o (case.Grow count) limits passes = omega arith
+
 pub contents_short : (o : Volume) (c : OnNames) → IsEditable o (named_command c) → contents_len c < 2 ^ 32
-contents_short o (case.Mkdir path) editable = omega arith
-contents_short o (case.Put path bytes) editable = put_short o (map (λ n. n.now) path.items) bytes.now editable.limits editable.unrefused
-contents_short o (case.Rm path) editable = omega arith
-contents_short o (case.Mv from to) editable = omega arith
-contents_short o (case.SetAttr path kind value) editable = omega arith
-contents_short o (case.RmAttr path kind) editable = omega arith
-contents_short o (case.Grow count) editable = omega arith
+contents_short o c editable = accepted_short o c editable.limits editable.unrefused
 
 -- ---- the edit
 
@@ -157,13 +185,11 @@ data_same v w (Grow n) same = refl
 least_same : (v o : Volume) (c : Command) (free : List ℕ) → o.size ≡ v.size → least_supplies o c free ≡ least_supplies v c free
 least_same v o c free same = ap (λ (n : ℕ). record { blocks = take n free; pair = least_pair free }) (data_same o v c same)
 
-pub unweighed : CarryingLaws → (d : Disk) (c : Command) (o new : Volume) (used : List Bool) → IsJudged d c o
+pub unweighed : CarryingLaws → (v : Volume) (c : Command) (o new : Volume) (used : List Bool) → IsJudged v c o
     → Marks used (λ b. uses b o) → unused used ≡ free_blocks (grown c o) → new ≡ edited_outline o c (least_supplies o c (unused used))
-    → IsUnweighed d c used new
-unweighed laws d c o new used judged marks free edits = record {
-  volume = v;
-  holds = judged.outline.holds;
-  sound = judged.outline.sound;
+    → IsUnweighed v c used new
+unweighed laws v c o new used judged marks free edits = record {
+  holdable = judged.is.holdable;
   names = judged.names;
   unrefused = ap first_refusal (sym (laws.judged v c).checked ∙ ap (λ (x : Volume). checks x c) (sym is)) ∙ judged.unrefused;
   marks = λ b. marks b ∙ ap (uses b) is ∙ outlined_uses b v;
@@ -173,29 +199,22 @@ unweighed laws d c o new used judged marks free edits = record {
       ∙ ap (λ (x : Volume). edited_outline x c (supplies_of v c)) is;
 }
   where
-    v : Volume
-    v = judged.outline.volume
-
     is : o ≡ outlined v
-    is = judged.outline.outline
+    is = judged.is.outline
 
     unused_is : unused used ≡ free_blocks (grown c v)
     unused_is = free ∙ ap (λ (x : Volume). free_blocks (grown c x)) is ∙ outlined_free (grown c v)
 
 -- the part that had the entry before leads, else the one that has it then
-pub unweighed_leads : (laws : CarryingLaws) (d : Disk) (c : Command) (o new : Volume) (used : List Bool) (judged : IsJudged d c o)
-    (marks : Marks used (λ b. uses b o)) (free : unused used ≡ free_blocks (grown c o))
-    (edits : new ≡ edited_outline o c (least_supplies o c (unused used))) (before leading : Option Pair)
-    → before ≡ leading_pair o c → leading ≡ option_or before (leading_pair new c)
-    → (let u = unweighed laws d c o new used judged marks free edits in leading ≡ leader u.volume c (supplies_of u.volume c))
-unfolding unweighed
-unweighed_leads laws d c o new used judged marks free edits before leading first leads =
-    let u = unweighed laws d c o new used judged marks free edits in
+pub unweighed_leads : (laws : CarryingLaws) (v : Volume) (c : Command) (o new : Volume) (used : List Bool) → o ≡ outlined v
+    → IsUnweighed v c used new → (before leading : Option Pair)
+    → before ≡ leading_pair o c → leading ≡ option_or before (leading_pair new c) → leading ≡ leader v c (supplies_of v c)
+unweighed_leads laws v c o new used is u before leading first leads =
     leads ∙ ap (λ (k : Option Pair). option_or k (leading_pair new c))
-    (first ∙ ap (λ (x : Volume). leading_pair x c) judged.outline.outline ∙ leading_outlined u.volume c)
-    ∙ ap (option_or (leading_pair u.volume c))
-    (ap (λ (x : Volume). leading_pair x c) (u.outline ∙ sym (laws.outlines u.volume c (supplies_of u.volume c)))
-    ∙ leading_outlined (edited u.volume c (supplies_of u.volume c)) c)
+    (first ∙ ap (λ (x : Volume). leading_pair x c) is ∙ leading_outlined v c)
+    ∙ ap (option_or (leading_pair v c))
+    (ap (λ (x : Volume). leading_pair x c) (u.outline ∙ sym (laws.outlines v c (supplies_of v c)))
+    ∙ leading_outlined (edited v c (supplies_of v c)) c)
 
 -- ---- behind the edit
 
@@ -214,37 +233,29 @@ least_not_root v c sound =
     (sym (take_all (length free) free (omega arith))) there))
 
 -- what is known of such an outline
-pub record IsWeighed (d : Disk) (c : Command) (used : List Bool) (o : Volume) (u : IsUnweighed d c used o) : Type 0 where
-  pub size : u.volume.size ≡ d.size
-  pub frame : o.size ≡ d.size
-  pub needed : made_blocks u.volume c + sum_by (part_blocks o) (dirty_parts o) ≡ need u.volume c
-  pub small : need u.volume c < 2 ^ 32
-  pub judged : first_refusal (room_checks_on o (made_blocks u.volume c) (unused used)) ≡ verdict u.volume c
+pub record IsWeighed (v : Volume) (c : Command) (used : List Bool) (o : Volume) : Type 0 where
+  pub frame : o.size ≡ v.size
+  pub needed : made_blocks v c + sum_by (part_blocks o) (dirty_parts o) ≡ need v c
+  pub small : need v c < 2 ^ 32
+  pub judged : first_refusal (room_checks_on o (made_blocks v c) (unused used)) ≡ verdict v c
 
-pub weighed : CarryingLaws → NeedsAreSmall → HeldHaveFewEntries → (d : Disk) (c : Command) (used : List Bool) (o : Volume)
-    → IsDisk d → (u : IsUnweighed d c used o) → IsWeighed d c used o u
-weighed laws small few d c used o disk u = record {
-  size = held.size;
-  frame = ap (λ (x : Volume). x.size) is ∙ edited_size v c (supplies_of v c) ∙ held.size;
+pub weighed : CarryingLaws → NeedsAreSmall → (v : Volume) (c : Command) (used : List Bool) (o : Volume) → IsUnweighed v c used o
+    → IsWeighed v c used o
+weighed laws small v c used o u = record {
+  frame = ap (λ (x : Volume). x.size) is ∙ edited_size v c (supplies_of v c);
   needed = sym carried.needed;
-  small = small v c u.sound (laws.marks (reading_of d) v held) (limits_held d v u.holds) (few d v disk u.holds) u.unrefused;
+  small = small v c u.holdable.sound u.holdable.clean u.holdable.limits u.holdable.few u.unrefused;
   judged = judged;
 }
   where
-    v : Volume
-    v = u.volume
-
     is : o ≡ outlined (edited v c (supplies_of v c))
     is = u.outline ∙ sym (laws.outlines v c (supplies_of v c))
-
-    held : HoldsLinks (reading_of d) v
-    held = laws.by_links (reading_of d) v u.holds
 
     carried : IsCarried v c (supplies_of v c) (λ p. []) o
     carried = subst (IsCarried v c (supplies_of v c) (λ p. [])) (sym u.outline) (laws.carried v c (supplies_of v c) (λ p. []))
 
     large : has_too_large (edited v c nothing) ≡ has_too_large o
-    large = carried.large (least_not_root v c u.sound)
+    large = carried.large (least_not_root v c u.holdable.sound)
 
     rows : room_checks v c ≡ room_checks_on o (made_blocks v c) (unused used)
     rows =
@@ -257,37 +268,43 @@ weighed laws small few d c used o disk u = record {
     judged : first_refusal (room_checks_on o (made_blocks v c) (unused used)) ≡ verdict v c
     judged = ap first_refusal (sym rows) ∙ sym (passed_first (checks v c) (room_checks v c) u.unrefused)
 
-pub refused_by : (d : Disk) (c : Command) (used : List Bool) (o : Volume) (u : IsUnweighed d c used o) (r : Refusal)
-    → IsWeighed d c used o u
-    → first_refusal (room_checks_on o (made_blocks u.volume c) (unused used)) ≡ Some r → IsRefusedBy d c r
-refused_by d c used o u r known refused asked spells =
-    refuses d asked r (record {
-      volume = u.volume;
-      holds = u.holds;
-      sound = u.sound;
-      command = c;
-      spells = spells;
-      refused = sym known.judged ∙ refused;
-    })
+-- a verdict on the volume that an image holds refuses the command, however it is spelled
+pub refused_by : (d : Disk) (c : Command) (v : Volume) → IsSound v → Holds (reading_of d) v → (r : Refusal) → verdict v c ≡ Some r
+    → IsRefusedBy d c r
+refused_by d c v sound holds r refused asked spells =
+    refuses d asked r (record { volume = v; holds = holds; sound = sound; command = c; spells = spells; refused = refused })
 
-ready : (d : Disk) (c : Command) (used : List Bool) (o : Volume) (u : IsUnweighed d c used o) (blocks : List ℕ) → IsWeighed d c used o u
-    → first_refusal (room_checks_on o (made_blocks u.volume c) (unused used)) ≡ None
-    → blocks ≡ take (made_blocks u.volume c + sum_by (part_blocks o) (dirty_parts o)) (unused used) → IsReady d c used blocks o
-ready d c used o u blocks known passes least = record {
-  volume = u.volume;
-  holds = u.holds;
-  sound = u.sound;
+ready : (v : Volume) (c : Command) (used : List Bool) (o : Volume) → IsUnweighed v c used o → (blocks : List ℕ) → IsWeighed v c used o
+    → first_refusal (room_checks_on o (made_blocks v c) (unused used)) ≡ None
+    → blocks ≡ take (made_blocks v c + sum_by (part_blocks o) (dirty_parts o)) (unused used) → IsReady v c used blocks o
+ready v c used o u blocks known passes least = record {
+  holdable = u.holdable;
   names = u.names;
   unrefused = sym known.judged ∙ passes;
   marks = u.marks;
   outline = u.outline;
-  least = least ∙ ap (λ (n : ℕ). take n (unused used)) known.needed ∙ ap (take (need u.volume c)) u.free;
+  least = least ∙ ap (λ (n : ℕ). take n (unused used)) known.needed ∙ ap (take (need v c)) u.free;
 }
 
-pub led : (d : Disk) (c : Command) (used : List Bool) (o : Volume) (u : IsUnweighed d c used o) (blocks : List ℕ) (leading : Option Pair)
-    → IsWeighed d c used o u
-    → first_refusal (room_checks_on o (made_blocks u.volume c) (unused used)) ≡ None
-    → blocks ≡ take (made_blocks u.volume c + sum_by (part_blocks o) (dirty_parts o)) (unused used)
-    → leading ≡ leader u.volume c (supplies_of u.volume c) → IsLed d c used blocks o leading
-unfolding ready
-led d c used o u blocks leading known passes least leads = record { ready = ready d c used o u blocks known passes least; leads = leads }
+pub led : (v : Volume) (c : Command) (used : List Bool) (o : Volume) → IsUnweighed v c used o → (blocks : List ℕ) (made : ℕ)
+    (leading : Option Pair) → IsWeighed v c used o → made ≡ made_blocks v c
+    → first_refusal (room_checks_on o made (unused used)) ≡ None
+    → blocks ≡ take (made + sum_by (part_blocks o) (dirty_parts o)) (unused used)
+    → leading ≡ leader v c (supplies_of v c) → IsLed v c used blocks made o leading
+led v c used o u blocks made leading known is passes least leads = record {
+  ready = ready v c used o u blocks known (ap (λ (n : ℕ). first_refusal (room_checks_on o n (unused used))) (sym is) ∙ passes)
+      (least ∙ ap (λ (n : ℕ). take (n + sum_by (part_blocks o) (dirty_parts o)) (unused used)) is);
+  made = is;
+  leads = leads;
+}
+
+-- what is known of an outline that was edited with the least free blocks
+pub record IsEdited (v : Volume) (c : Command) (used : List Bool) (o : Volume) : Type 0 where
+  pub is : IsUnweighed v c used o
+  pub known : IsWeighed v c used o
+
+pub edited_known : CarryingLaws → NeedsAreSmall → (v : Volume) (c : Command) (before o : Volume) (used : List Bool) → IsJudged v c before
+    → IsTableOf (grown c before) used → o ≡ edited_outline before c (least_supplies before c (unused used)) → IsEdited v c used o
+edited_known laws small v c before o used judged table edits =
+    let u = unweighed laws v c before o used judged table.marks (unused_free (grown c before) used table.len table.marks) edits in
+    record { is = u; known = weighed laws small v c used o u }

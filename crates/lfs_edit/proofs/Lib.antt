@@ -10,5 +10,4 @@ pub mod FewOverflow
 pub mod ReadyLemmas
 pub mod EditedSizes
 pub mod JudgedLemmas
-pub mod PairsDiffer
 pub mod TableLemmas

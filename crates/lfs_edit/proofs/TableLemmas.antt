@@ -1,23 +1,17 @@
 -- The table of used blocks is that of what a command leaves.
 use Rattle.std.proofs.Common.{◌≡◌, ℕ, Bool, List, ap, sym, ◌∙◌, subst}
 use Rattle.lfs_block.specs.Disk.{Disk}
-use Rattle.lfs_block.specs.Patch.{ChangeSet}
-use Rattle.lfs_fs.specs.Holds.{VolumesAreOne}
 use Rattle.lfs_fs.specs.Mounted.{IsOutlineOf}
 use Rattle.lfs_fs.specs.Outlined.{outlined}
-use Rattle.lfs_fs.specs.Reading.{reading_of}
 use Rattle.lfs_fs.specs.Sound.{IsSound}
 use Rattle.lfs_fs.specs.SoundOutlines.{OutlinesAreSound}
 use Rattle.lfs_fs.specs.Table.{IsTableOf}
-use Rattle.lfs_fs.specs.Uses.{times, uses}
+use Rattle.lfs_fs.specs.Uses.{uses}
 use Rattle.lfs_fs.specs.Volume.{Volume}
 use Rattle.lfs_fs.proofs.OutlinedLemmas.{outlined_uses}
 use Rattle.lfs_command.specs.Command.{Command}
-use Rattle.lfs_command.specs.Freed.{freed_uses}
 use Rattle.lfs_command.specs.Growth.{count_after, grown}
-use Rattle.lfs_command.specs.Planned.{CarriesOut}
-use Rattle.lfs_edit.specs.Carried.{AreTakenBy, IsFinished, IsJudged}
-use Rattle.lfs_law.specs.JudgedAlike.{OutlinesAreJudgedAlike}
+use Rattle.lfs_edit.specs.Carried.{IsCarriedOut}
 use Rattle.lfs_law.specs.TablesFollow.{LeadsToTable, TablesFollow}
 
 -- the outline of an image is sound
@@ -28,34 +22,20 @@ outline_sound sound d o is = subst IsSound (sym is.outline) (sound is.volume is.
 outlined_table : (v : Volume) (used : List Bool) → IsTableOf v used → IsTableOf (outlined v) used
 outlined_table v used table = record { len = table.len; marks = λ b. table.marks b ∙ sym (outlined_uses b v) }
 
-pub table_behind : TablesFollow → OutlinesAreJudgedAlike → VolumesAreOne → (d : Disk) (c : Command) (o new : Volume) (p : ChangeSet) (used : List Bool)
-    (blocks gone : List ℕ) → IsJudged d c o → IsTableOf (grown c o) used → ((b : ℕ) → times b gone ≡ freed_uses o c b) → AreTakenBy d c blocks
-    → IsFinished d c p new → LeadsToTable used blocks gone new
-table_behind follow alike one d c o new p used blocks gone judged table freed taken done = record {
+pub table_behind : TablesFollow → (v : Volume) (c : Command) (o new : Volume) (used : List Bool) (blocks gone : List ℕ) → o ≡ outlined v
+    → IsTableOf (grown c o) used → IsCarriedOut v c blocks gone new → LeadsToTable used blocks gone new
+table_behind follow v c o new used blocks gone is table done = record {
   free = leads.free;
   marked = leads.marked;
   table = λ more last adds gives. subst (λ (x : Volume). IsTableOf x last) (sym done.leaves)
       (outlined_table done.after last (leads.table more last adds gives));
 }
   where
-    v : Volume
-    v = judged.outline.volume
-
-    is : o ≡ outlined v
-    is = judged.outline.outline
-
-    carried : CarriesOut c v done.after
-    carried = subst (λ (x : Volume). CarriesOut c x done.after)
-        (one (reading_of d) done.before v done.holds judged.outline.holds) done.carried
-
     table_of_volume : IsTableOf (grown c v) used
     table_of_volume = record {
       len = table.len ∙ ap (λ (x : Volume). count_after c x.count) is;
       marks = λ b. table.marks b ∙ ap (uses b) is ∙ outlined_uses b v;
     }
 
-    freed_of_volume : (b : ℕ) → times b gone ≡ freed_uses v c b
-    freed_of_volume b = freed b ∙ ap (λ (x : Volume). freed_uses x c b) is ∙ (alike v c).freed b
-
     leads : LeadsToTable used blocks gone done.after
-    leads = follow c v done.after carried used table_of_volume blocks gone (taken v judged.outline.holds) freed_of_volume
+    leads = follow c v done.after done.carried used table_of_volume blocks gone done.taken done.gone

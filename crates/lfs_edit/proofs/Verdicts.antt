@@ -1,8 +1,8 @@
 -- The first check that refuses.
-use Rattle.std.proofs.Common.{◌≡◌, Bool, false, List, [], ◌∷◌, ◌++◌, Option, Some, None, refl, sym}
+use Rattle.std.proofs.Common.{◌≡◌, List, [], ◌∷◌, ◌++◌, Option, Some, None, refl, sym}
 use Rattle.std.proofs.lemmas.Option.{none-some}
 use Rattle.lfs_command.specs.declared.refusal.Refusal.{Refusal}
-use Rattle.lfs_command.specs.Verdict.{refuse_if, first_refusal}
+use Rattle.lfs_command.specs.Verdict.{first_refusal}
 
 -- checks behind one that refuses don't matter
 pub refused_first : (rs more : List (Option Refusal)) (r : Refusal) → first_refusal rs ≡ Some r → first_refusal (rs ++ more) ≡ Some r
@@ -15,9 +15,6 @@ pub passed_first : (rs more : List (Option Refusal)) → first_refusal rs ≡ No
 passed_first [] more h = refl
 passed_first (None ∷ rs) more h = passed_first rs more h
 passed_first (Some q ∷ rs) more h = absurd (none-some q (sym h))
-
-pub not_refused : (t : Bool) (r : Refusal) → t ≡ false → refuse_if t r ≡ None
-not_refused t r h = rw h refl
 
 -- where no check refuses, none of the first ones does
 pub front_passes : (rs more : List (Option Refusal)) → first_refusal (rs ++ more) ≡ None → first_refusal rs ≡ None

@@ -11,6 +11,7 @@ use Rattle.lfs_meta.specs.Body.{Pair}
 use Rattle.lfs_fs.specs.Directory.{Part}
 use Rattle.lfs_fs.specs.Free.{free_blocks}
 use Rattle.lfs_fs.specs.Outlined.{outlined}
+use Rattle.lfs_fs.specs.Holds.{Holds}
 use Rattle.lfs_fs.specs.Reading.{reading_of}
 use Rattle.lfs_fs.specs.Sound.{AreAttributes}
 use Rattle.lfs_fs.specs.Stored.{HoldsLinks, SaysVolume}
@@ -40,7 +41,6 @@ use Rattle.lfs_command.specs.Supplies.{Supplies}
 use Rattle.lfs_law.specs.SuperblockBytes.{volume_bytes}
 use Rattle.lfs_law.specs.WrittenLinks.{AreWritten, ChangesLinks, changed_blocks, number_in}
 use Rattle.lfs_edit.proofs.CarryingLemmas.{IsLong, IsTaken, taken_of, within_need}
-use Rattle.lfs_edit.proofs.JudgedLemmas.{limits_held}
 use Rattle.lfs_edit.proofs.Verdicts.{front_passes}
 use Rattle.lfs_law.proofs.FreeBlocks.{taken_below, taken_rise}
 use Rattle.lfs_law.proofs.FrugalPlans.{changed_named, enough_free, one_is}
@@ -50,31 +50,29 @@ use Rattle.lfs_law.proofs.LinksAdded.{times_append, times_cons}
 -- ---- the blocks of the contents
 
 -- they are the least free ones
-pub contents_are : (d : Disk) (c : Command) (used : List Bool) (blocks : List ℕ) (w : Volume) (cut' : IsCutReady d c used blocks w)
-    → take (data_blocks cut'.ready.volume c) blocks ≡ take (data_blocks cut'.ready.volume c) (free_blocks (grown c cut'.ready.volume))
-contents_are d c used blocks w cut' =
-    let v : Volume = cut'.ready.volume in
+pub contents_are : (v : Volume) (c : Command) (used : List Bool) (blocks : List ℕ) (w : Volume) (cut' : IsCutReady v c used blocks w)
+    → take (data_blocks v c) blocks ≡ take (data_blocks v c) (free_blocks (grown c v))
+contents_are v c used blocks w cut' =
     ap (take (data_blocks v c)) cut'.ready.least ∙ take-take (data_blocks v c) (need v c) (free_blocks (grown c v)) (omega (arith, within_need v c))
 
 -- so they rise, are the volume's, and as many as the contents take
-pub contents_rise : (d : Disk) (c : Command) (used : List Bool) (blocks : List ℕ) (w : Volume) (cut' : IsCutReady d c used blocks w)
+pub contents_rise : (v : Volume) (c : Command) (used : List Bool) (blocks : List ℕ) (w : Volume) (cut' : IsCutReady v c used blocks w)
     (count : ℕ)
-    → count ≡ data_blocks cut'.ready.volume c → AllPairs ◌<◌ (take count blocks)
-contents_rise d c used blocks w cut' count is =
-    rw (is, contents_are d c used blocks w cut') (taken_rise (grown c cut'.ready.volume) (data_blocks cut'.ready.volume c))
+    → count ≡ data_blocks v c → AllPairs ◌<◌ (take count blocks)
+contents_rise v c used blocks w cut' count is =
+    rw (is, contents_are v c used blocks w cut') (taken_rise (grown c v) (data_blocks v c))
 
-pub contents_below : (d : Disk) (c : Command) (used : List Bool) (blocks : List ℕ) (w : Volume) (cut' : IsCutReady d c used blocks w)
+pub contents_below : (v : Volume) (c : Command) (used : List Bool) (blocks : List ℕ) (w : Volume) (cut' : IsCutReady v c used blocks w)
     (count : ℕ)
-    → count ≡ data_blocks cut'.ready.volume c → All (λ b. b < count_after c cut'.ready.volume.count) (take count blocks)
-contents_below d c used blocks w cut' count is =
-    rw (is, contents_are d c used blocks w cut') (taken_below (grown c cut'.ready.volume) (data_blocks cut'.ready.volume c))
+    → count ≡ data_blocks v c → All (λ b. b < count_after c v.count) (take count blocks)
+contents_below v c used blocks w cut' count is =
+    rw (is, contents_are v c used blocks w cut') (taken_below (grown c v) (data_blocks v c))
 
-pub contents_many : (d : Disk) (c : Command) (used : List Bool) (blocks : List ℕ) (w : Volume) (cut' : IsCutReady d c used blocks w)
+pub contents_many : (v : Volume) (c : Command) (used : List Bool) (blocks : List ℕ) (w : Volume) (cut' : IsCutReady v c used blocks w)
     (count : ℕ)
-    → count ≡ data_blocks cut'.ready.volume c → length (take count blocks) ≡ count
-contents_many d c used blocks w cut' count is =
-    let v : Volume = cut'.ready.volume in
-    ap (λ (k : ℕ). length (take k blocks)) is ∙ ap length (contents_are d c used blocks w cut')
+    → count ≡ data_blocks v c → length (take count blocks) ≡ count
+contents_many v c used blocks w cut' count is =
+    ap (λ (k : ℕ). length (take k blocks)) is ∙ ap length (contents_are v c used blocks w cut')
     ∙ length-take-le (data_blocks v c) (free_blocks (grown c v)) (omega (arith, within_need v c, enough_free v c cut'.ready.unrefused))
     ∙ sym is
 
@@ -99,10 +97,10 @@ pub record IsAtHand (d : Disk) (c : Command) (v w : Volume) (chosen : Part → L
   pub says : SaysVolume w (volume_bytes w)
   pub root : AreAttributes w.limits.attribute w.attributes
 
-pub at_hand : (laws : CarryingLaws) → WritingLaws → (d : Disk) → IsDisk d
-    → (c : Command) (used : List Bool) (blocks : List ℕ) (w : Volume) (ready : IsCutReady d c used blocks w)
-    → IsAtHand d c ready.ready.volume w (for_parts ready.cuts.chosen)
-at_hand laws hand d disk c used blocks w ready = record {
+pub at_hand : (laws : CarryingLaws) → WritingLaws → (d : Disk) → IsDisk d → (v : Volume) → Holds (reading_of d) v
+    → (c : Command) (used : List Bool) (blocks : List ℕ) (w : Volume) (ready : IsCutReady v c used blocks w)
+    → IsAtHand d c v w (for_parts ready.cuts.chosen)
+at_hand laws hand d disk v holds c used blocks w ready = record {
   all = all;
   held = held;
   fits = fits;
@@ -113,9 +111,6 @@ at_hand laws hand d disk c used blocks w ready = record {
   root = subst (λ (x : Volume). AreAttributes x.limits.attribute x.attributes) all.same follows.sound.root_attributes;
 }
   where
-    v : Volume
-    v = ready.ready.volume
-
     n : ℕ
     n = count_after c d.count
 
@@ -123,10 +118,10 @@ at_hand laws hand d disk c used blocks w ready = record {
     chosen = for_parts ready.cuts.chosen
 
     all : IsTaken v c chosen w
-    all = taken_of laws d c used blocks ready.before w ready.ready ready.cuts
+    all = taken_of laws v c used blocks ready.before w ready.ready ready.cuts
 
     held : HoldsLinks (reading_of d) v
-    held = laws.by_links (reading_of d) v ready.ready.holds
+    held = laws.by_links (reading_of d) v holds
 
     after : Volume
     after = cut chosen (edited v c (supplies_of v c))
@@ -134,11 +129,8 @@ at_hand laws hand d disk c used blocks w ready = record {
     follows : Follows v c after
     follows = laws.follow v c (supplies_of v c) chosen all.accepted all.pairs
 
-    here : IsGeometry v.size v.count
-    here = subst (λ (k : ℕ). IsGeometry k v.count) (sym held.size) (subst (IsGeometry d.size) (sym held.count) disk.geometry)
-
     grows : IsGeometry v.size (count_after c v.count) × (v.count ≤ count_after c v.count)
-    grows = hand.grow v c here (front_passes (checks v c) (room_checks v c) ready.ready.unrefused)
+    grows = hand.grow v c ready.ready.holdable.fits (front_passes (checks v c) (room_checks v c) ready.ready.unrefused)
 
     fits : IsGeometry d.size n
     fits = subst (λ (k : ℕ). IsGeometry k n) held.size (subst (λ (k : ℕ). IsGeometry v.size (count_after c k)) held.count grows.0)
@@ -147,12 +139,12 @@ at_hand laws hand d disk c used blocks w ready = record {
     more = subst (λ (k : ℕ). k ≤ count_after c k) held.count grows.1
 
     parts : HoldsParts (reading_of (resized n d)) (grown c v) (volume_bytes v)
-    parts = subst (HoldsParts (reading_of (resized n d)) (grown c v)) (hand.made d v held disk ready.ready.sound)
+    parts = subst (HoldsParts (reading_of (resized n d)) (grown c v)) (hand.made d v held disk ready.ready.holdable.sound)
         (subst (λ (k : ℕ). HoldsParts (reading_of (resized n d)) (with_count (count_after c k) v) held.bytes) (sym held.count)
-        (hand.long d v held n disk ready.ready.sound fits more))
+        (hand.long d v held n disk ready.ready.holdable.sound fits more))
 
     limits : IsLimits after.limits
-    limits = subst IsLimits (sym follows.limits) (limits_held d v ready.ready.holds)
+    limits = subst IsLimits (sym follows.limits) ready.ready.holdable.limits
 
     said : SaysVolume (outlined after) (volume_bytes (outlined after))
     said =
@@ -161,12 +153,11 @@ at_hand laws hand d disk c used blocks w ready = record {
 
 -- its links can be written behind changes that lay what the command puts into the blocks of its supplies
 pub can_be_added : CutLinksCanBeAdded → (d e : Disk)
-    → (c : Command) (used : List Bool) (blocks : List ℕ) (w : Volume) (ready : IsCutReady d c used blocks w)
-    → IsAtHand d c ready.ready.volume w (for_parts ready.cuts.chosen) → e ≡ resized (count_after c d.count) d → (base : List Change)
-    → AreLaidFor e ready.ready.volume c (supplies_of ready.ready.volume c) base
+    → (v : Volume) (c : Command) (used : List Bool) (blocks : List ℕ) (w : Volume) (ready : IsCutReady v c used blocks w)
+    → IsAtHand d c v w (for_parts ready.cuts.chosen) → e ≡ resized (count_after c d.count) d → (base : List Change)
+    → AreLaidFor e v c (supplies_of v c) base
     → CanBeAdded e (volume_bytes w) w.attributes (is_unmarked used) base (links w.directories)
-can_be_added can d e c used blocks w ready known is base laid =
-    let v : Volume = ready.ready.volume in
+can_be_added can d e v c used blocks w ready known is base laid =
     let chosen : Part → List Pair = for_parts ready.cuts.chosen in
     subst (λ (x : Volume). CanBeAdded e (volume_bytes w) x.attributes (is_unmarked used) base (links x.directories)) known.all.same
     (can e v c (supplies_of v c) chosen (volume_bytes w) used base
@@ -186,13 +177,13 @@ pub record IsWritten (d : Disk) (c : Command) (used : List Bool) (v w : Volume) 
   pub writes : WritesOver (resized (count_after c d.count) d) v c used w (kept (grown_patch d.size d.count (count_after c d.count) cs))
 
 pub is_written : (laws : CarryingLaws) → WritingLaws → CommandsSetAPart → (d : Disk) → IsDisk d
-    → (c : Command) (used : List Bool) (blocks : List ℕ) (w : Volume) (ready : IsCutReady d c used blocks w)
-    → IsAtHand d c ready.ready.volume w (for_parts ready.cuts.chosen) → (base cs : List Change)
-    → AreLaidFor (resized (count_after c d.count) d) ready.ready.volume c (supplies_of ready.ready.volume c) base
+    → (v : Volume) (c : Command) (used : List Bool) (blocks : List ℕ) (w : Volume) (ready : IsCutReady v c used blocks w)
+    → IsAtHand d c v w (for_parts ready.cuts.chosen) → (base cs : List Change)
+    → AreLaidFor (resized (count_after c d.count) d) v c (supplies_of v c) base
     → AreWritten (resized (count_after c d.count) d) (volume_bytes w) w.attributes (is_unmarked used) base (links w.directories) cs
     → ChangesLinks (resized (count_after c d.count) d) (is_unmarked used) (forced_by c) (links w.directories) cs
-    → IsWritten d c used ready.ready.volume w cs
-is_written laws hand some d disk c used blocks w ready known base cs laid written changed = record {
+    → IsWritten d c used v w cs
+is_written laws hand some d disk v c used blocks w ready known base cs laid written changed = record {
   long = record {
     growth = growth;
     stands = stands;
@@ -213,9 +204,6 @@ is_written laws hand some d disk c used blocks w ready known base cs laid writte
   };
 }
   where
-    v : Volume
-    v = ready.ready.volume
-
     s : Supplies
     s = supplies_of v c
 

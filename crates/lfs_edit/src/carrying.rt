@@ -1,56 +1,43 @@
-//! Commands that are carried out on the outline of an image.
+//! Commands that are carried out on an outline, without an image.
 
-ghost use Rattle.std.specs.Prelude.{◌≡◌, ◌+◌, ◌<◌, ◌≤◌, ◌^◌, ◌⊎◌, None, Some, nat_lt, length, take, sum_by, IfOk, IfErr, OnOk};
+ghost use Rattle.std.specs.Prelude.{◌≡◌, ◌+◌, ◌<◌, ◌≤◌, ◌^◌, ◌⊎◌, ℕ, Bool, List, None, Some, nat_lt, length, take, sum_by, IfOk, IfErr, OnOk};
 ghost use Rattle.std.specs.List.{filter};
 ghost use Rattle.std.specs.Option.{option_or};
-ghost use Rattle.lfs_block.specs.Disk.{erased_block};
 ghost use Rattle.lfs_block.specs.Geometry.{IsBlockSize};
-ghost use Rattle.lfs_block.specs.Patch.{applied};
-ghost use Rattle.lfs_fs.specs.Mounted.{IsOutlineOf};
 ghost use Rattle.lfs_fs.specs.Sound.{IsSound};
 ghost use Rattle.lfs_fs.specs.Table.{IsTableOf};
 ghost use Rattle.lfs_fs.specs.Unused.{unused};
+ghost use Rattle.lfs_fs.specs.Uses.{times};
 ghost use Rattle.lfs_fs.specs.Volume.{Volume};
-ghost use Rattle.lfs_command.specs.AskedFor.{asked_for, contents_len, named_command};
-ghost use Rattle.lfs_command.specs.declared.refusal.Refusal.TheVariants.{Memory};
-ghost use Rattle.lfs_draft.specs.LeastSupplies.{least_supplies};
-ghost use Rattle.lfs_cut.specs.RoomChecks.{room_checks_on};
-ghost use Rattle.lfs_edit.specs.Carried.{AreTakenBy, IsCutOver, IsCutReady, IsFinished, IsJudged, IsLed, IsRefusedBy};
-ghost use Rattle.lfs_cut.specs.Chosen.{HasPairsOnce};
-ghost use Rattle.lfs_command.specs.Clean.{clean};
+ghost use Rattle.lfs_command.specs.AskedFor.{contents_len, named_command};
+ghost use Rattle.lfs_command.specs.Clean.{IsClean, clean};
+ghost use Rattle.lfs_command.specs.Command.{Command, HasNames};
 ghost use Rattle.lfs_command.specs.Cut.{runs};
-ghost use Rattle.lfs_draft.specs.Editable.{IsEditable};
+ghost use Rattle.lfs_command.specs.Freed.{freed_uses};
 ghost use Rattle.lfs_command.specs.Growth.{grown};
+ghost use Rattle.lfs_command.specs.Leading.{leading_pair};
+ghost use Rattle.lfs_command.specs.Need.{dirty_parts, part_blocks};
+ghost use Rattle.lfs_command.specs.Supplies.{Supplies};
+ghost use Rattle.lfs_command.specs.Verdict.{first_refusal, verdict};
+ghost use Rattle.lfs_command.specs.declared.refusal.Refusal.TheVariants.{Memory};
 ghost use Rattle.lfs_law.specs.EditedOutline.{edited_outline};
 ghost use Rattle.lfs_law.specs.Lengthened.{with_count};
-ghost use Rattle.lfs_command.specs.Leading.{leading_pair};
-ghost use Rattle.lfs_command.specs.Need.{data_blocks, dirty_parts, part_blocks};
-ghost use Rattle.lfs_command.specs.Planned.{Plans, RefusesPlan};
-ghost use Rattle.lfs_command.specs.Verdict.{first_refusal};
+ghost use Rattle.lfs_law.specs.TablesFollow.{LeadsToTable};
+ghost use Rattle.lfs_draft.specs.Editable.{IsEditable, NamesRise};
+ghost use Rattle.lfs_draft.specs.LeastSupplies.{least_supplies};
+ghost use Rattle.lfs_cut.specs.Chosen.{HasPairsOnce};
+ghost use Rattle.lfs_cut.specs.Front.{IsCleanFrom};
+ghost use Rattle.lfs_cut.specs.RoomChecks.{room_checks_on};
+ghost use Rattle.lfs_edit.specs.Carried.{IsCarriedOut, IsCutOver, IsCutReady, IsJudged, IsLed, IsOutlined};
 
-use crate::carrying_laws::{carrying_laws, writing_laws};
-use lfs_block::{Blocks, Image, Lengthened, Patch};
-use lfs_command::{Named, Refusal, count_after, data_blocks, directory_blocks, forced_by};
+use crate::carried::Carried;
+use crate::carrying_laws::carrying_laws;
+use lfs_command::{Named, Refusal, count_after, data_blocks, directory_blocks};
 use lfs_cut::{choose, clean, cut, needed};
-use lfs_draft::{edit, freed_blocks, leading_pair, least_supplies};
-use lfs_fs::{
-    Outline, UsedBlocks, images_mount_to_one_tree, names_are_ordered, outlines_are_sound,
-};
-use lfs_law::{
-    commands_set_a_part, counts_grow, cut_links_can_be_written, held_volumes_have_few_entries,
-    needs_are_small, tables_follow,
-};
-use lfs_write::{laid_for, write_links};
+use lfs_draft::{count_in_front, edit, freed_blocks, judge, leading_pair, least_supplies};
+use lfs_fs::{Outline, UsedBlocks, names_are_ordered, outlines_are_sound};
+use lfs_law::{counts_grow, needs_are_small, tables_follow};
 use std::alloc::{AllocError, Global};
-
-/// A patch that carries a command out, with the blocks that the command takes.
-#[derive(Drop)]
-struct CarriedOut {
-    /// The patch that carries it out.
-    patch: Patch,
-    /// The blocks that it takes.
-    blocks: Vec<u32>,
-}
 
 /// The blocks that an outline uses, of so many. The caller owes that it is sound with so many, and that none has two uses. Where memory is
 /// wanting, the outline is of no use.
@@ -111,16 +98,18 @@ fn edit_least(
 fn needed_blocks(
     alloc: Global,
     outline: &Outline,
+    front: usize,
     made: u32,
     used: &UsedBlocks,
 ) -> Result<Vec<u32>, Refusal>
     requires size { outline.now.size ≤ 65536 }
+    requires front { IsCleanFrom front outline.now.directories }
     requires small { made + sum_by (part_blocks outline.now) (dirty_parts outline.now) < 2 ^ 32 }
     ensures blocks { IfOk result (λ blocks. blocks.items ≡ take (made + sum_by (part_blocks outline.now) (dirty_parts outline.now)) (unused used.now)) }
     ensures unrefused { OnOk result (first_refusal (room_checks_on outline.now made (unused used.now)) ≡ None) }
     ensures refused { IfErr result (λ r. (r ≡ Memory) ⊎ (first_refusal (room_checks_on outline.now made (unused used.now)) ≡ Some r)) }
 {
-    let need = needed(outline, made, used)?;
+    let need = needed(outline, front, made, used)?;
     used.lowest_free(alloc, need).ok_or(Refusal::Memory)
 }
 
@@ -129,85 +118,27 @@ fn needed_blocks(
 fn cut_over(
     alloc: Global,
     outline: &mut Outline,
+    front: usize,
     leading: Option<(u32, u32)>,
     blocks: &[u32],
 ) -> Result<(), AllocError>
     requires size { outline.old.size ≤ 65536 }
+    requires front { IsCleanFrom front outline.old.directories }
     requires needed { length blocks.now ≡ sum_by (part_blocks outline.old) (dirty_parts outline.old) }
     requires once { HasPairsOnce outline.old }
     requires few { length (filter (λ p. nat_lt 1 (length (runs outline.old p))) (dirty_parts outline.old)) ≤ 2 }
-    ensures { OnOk result (IsCutOver leading outline.old blocks.now outline.new) }
+    ensures cut { OnOk result (IsCutOver leading outline.old blocks.now outline.new) }
+    ensures front { OnOk result (IsCleanFrom front outline.new.directories) }
 {
-    let rows = choose(alloc, outline, leading, blocks)?;
-    cut(alloc, outline, &rows)?;
+    let rows = choose(alloc, outline, front, leading, blocks)?;
+    cut(alloc, outline, front, &rows)?;
     Ok(())
 }
 
-/// A block of so many bytes of which nothing was written.
-fn erased_block(alloc: Global, size: u32) -> Result<Vec<u8>, AllocError>
-    ensures { IfOk result (λ block. block.items ≡ erased_block size) }
-{
-    vec![in alloc; 0xff; size as usize]
-}
-
-/// The patch that writes an outline that is cut over the image, as the command lengthens it: a file's new contents in the first of the
-/// blocks, and its links that are set.
-fn written(
-    alloc: Global,
-    image: &Image,
-    outline: &Outline,
-    command: &Named<'_>,
-    used: &UsedBlocks,
-    blocks: &[u32],
-) -> Result<Patch, AllocError>
-    requires cut { IsCutReady image.now.disk (named_command command.now) used.now blocks.now outline.now }
-    requires len { contents_len command.now < 2 ^ 32 }
-    ensures { IfOk result (λ patch. IsFinished image.now.disk (named_command command.now) patch (clean outline.now)) }
-{
-    carrying_laws();
-    writing_laws();
-    cut_links_can_be_written();
-    commands_set_a_part();
-    let size = image.size();
-    let before = image.count();
-    let after = count_after(command, before);
-    let erased = erased_block(alloc, size)?;
-    let long = Lengthened::of(image, after, &erased);
-    let data = data_blocks(size, command) as usize;
-    let base = laid_for(alloc, &long, command, &blocks[..data])?;
-    let forced = forced_by(command);
-    let changes = write_links(alloc, &long, outline, used.flags(), forced, base)?;
-    Ok(Patch::of(size, before, after, changes))
-}
-
-/// Cuts an outline that is ready, writes it, and takes the marks of the command off. Where memory is wanting, the outline is of no use.
-fn carry_ready(
-    alloc: Global,
-    image: &Image,
-    outline: &mut Outline,
-    command: &Named<'_>,
-    used: &UsedBlocks,
-    blocks: &[u32],
-    leading: Option<(u32, u32)>,
-) -> Result<Patch, AllocError>
-    requires led { IsLed image.now.disk (named_command command.now) used.now blocks.now outline.old leading }
-    requires len { contents_len command.now < 2 ^ 32 }
-    ensures { IfOk result (λ patch. IsFinished image.now.disk (named_command command.now) patch outline.new) }
-{
-    carrying_laws();
-    let size = image.size();
-    let data = data_blocks(size, command) as usize;
-    let made = data + directory_blocks(command) as usize;
-    let (_, new) = blocks.split_at(made);
-    cut_over(alloc, outline, leading, new)?;
-    let patch = written(alloc, image, outline, command, used, blocks)?;
-    clean(outline);
-    Ok(patch)
-}
-
 /// The pair that leads: that of the part that had the entry at the command's path before, else of the one that has it in the edited
-/// outline. Takes no memory.
+/// outline, the names of which rise. Takes no memory.
 fn leader(before: Option<(u32, u32)>, outline: &Outline, command: &Named<'_>) -> Option<(u32, u32)>
+    requires { NamesRise outline.now.directories }
     ensures { result ≡ option_or before (leading_pair outline.now (named_command command.now)) }
 {
     match before {
@@ -216,66 +147,133 @@ fn leader(before: Option<(u32, u32)>, outline: &Outline, command: &Named<'_>) ->
     }
 }
 
-/// Carries out a command on an outline on which no check refuses it, those on room aside: `EntryTooLarge` where some part that it sets
-/// then has an entry that weighs more than a block has room for, else `NoSpace` where fewer blocks are free than it needs. The caller owes
-/// the table of the blocks that are used, of as many as the command leaves. Where it is refused, the outline is of no use. `Memory` says
-/// only that a growth was refused.
-fn carry_over(
+/// Cuts an outline that is ready, into pairs of those of the blocks that the command doesn't take for what it makes. Where memory is wanting,
+/// the outline is of no use.
+fn cut_ready(
     alloc: Global,
-    image: &Image,
     outline: &mut Outline,
-    command: &Named<'_>,
-    used: &UsedBlocks,
-) -> Result<CarriedOut, Refusal>
-    requires judged { IsJudged image.now.disk (named_command command.now) outline.old }
-    requires table { IsTableOf (grown (named_command command.now) outline.old) used.now }
-    ensures finished { IfOk result (λ done. IsFinished image.now.disk (named_command command.now) done.patch outline.new) }
-    ensures taken { IfOk result (λ done. AreTakenBy image.now.disk (named_command command.now) done.blocks.items) }
-    ensures refused { IfErr result (λ r. (r ≡ Memory) ⊎ IsRefusedBy image.now.disk (named_command command.now) r) }
+    front: usize,
+    blocks: &[u32],
+    made: u32,
+    leading: Option<(u32, u32)>,
+) -> Result<(), AllocError>
+    requires led { (v : Volume) × (c : Command) × (used : List Bool) × IsLed v c used blocks.now made outline.old leading }
+    requires front { IsCleanFrom front outline.old.directories }
+    ensures cut { OnOk result ((v : Volume) (c : Command) (used : List Bool) → IsLed v c used blocks.now made outline.old leading
+        → IsCutReady v c used blocks.now outline.new) }
+    ensures front { OnOk result (IsCleanFrom front outline.new.directories) }
 {
     carrying_laws();
-    images_mount_to_one_tree();
+    let (_, new) = blocks.split_at(made as usize);
+    cut_over(alloc, outline, front, leading, new)?;
+    Ok(())
+}
+
+/// Edits and cuts an outline on which no check refuses a command, those on room aside: `EntryTooLarge` where some part that it sets then has an
+/// entry that weighs more than a block has room for, else `NoSpace` where fewer blocks are free than it needs. The blocks that the command
+/// takes. The caller owes the table of the blocks that are used, of as many as the command leaves, and that the command sets parts of so many
+/// directories in front alone. Where it is refused, the outline is of no use. `Memory` says only that a growth was refused.
+fn carry_over(
+    alloc: Global,
+    outline: &mut Outline,
+    front: usize,
+    command: &Named<'_>,
+    used: &UsedBlocks,
+) -> Result<Vec<u32>, Refusal>
+    requires judged { (v : Volume) × IsJudged v (named_command command.now) outline.old }
+    requires front { (s : Supplies) → IsClean outline.old
+        → IsCleanFrom front (edited_outline outline.old (named_command command.now) s).directories }
+    requires table { IsTableOf (grown (named_command command.now) outline.old) used.now }
+    ensures cut { IfOk result (λ blocks. (v : Volume) → IsJudged v (named_command command.now) outline.old
+        → IsCutReady v (named_command command.now) used.now blocks.items outline.new) }
+    ensures front { OnOk result (IsCleanFrom front outline.new.directories) }
+    ensures refused { IfErr result (λ r. (r ≡ Memory)
+        ⊎ ((v : Volume) → IsJudged v (named_command command.now) outline.old → verdict v (named_command command.now) ≡ Some r)) }
+{
+    carrying_laws();
     outlines_are_sound();
     names_are_ordered();
     needs_are_small();
-    held_volumes_have_few_entries();
-    let size = image.size();
+    let size = outline.size;
     let before = leading_pair(outline, command);
     edit_least(alloc, outline, command, used)?;
-    let leading = leader(before, outline, command);
     let made = data_blocks(size, command) + directory_blocks(command);
-    let blocks = needed_blocks(alloc, outline, made, used)?;
-    let patch = carry_ready(alloc, image, outline, command, used, &blocks, leading)?;
-    Ok(CarriedOut { patch, blocks })
+    let blocks = needed_blocks(alloc, outline, front, made, used)?;
+    let leading = leader(before, outline, command);
+    cut_ready(alloc, outline, front, &blocks, made, leading)?;
+    Ok(blocks)
 }
 
-/// The same, with the table of the blocks that the outline uses, which becomes that of the outline that the command leaves. Where it is
-/// refused, outline and table are of no use.
+/// The same, with the table of the blocks that the outline uses, which gets as many blocks as the command leaves, and with the blocks that the
+/// command gives back. Where it is refused, outline and table are of no use.
 pub(crate) fn carry_judged(
     alloc: Global,
-    image: &Image,
     outline: &mut Outline,
     used: &mut UsedBlocks,
     command: &Named<'_>,
-) -> Result<Patch, Refusal>
-    requires judged { IsJudged image.now.disk (named_command command.now) outline.old }
+) -> Result<Carried, Refusal>
+    requires judged { (v : Volume) × IsJudged v (named_command command.now) outline.old }
     requires table { IsTableOf outline.old used.old }
-    ensures finished { IfOk result (λ patch. IsFinished image.now.disk (named_command command.now) patch outline.new) }
-    ensures table { OnOk result (IsTableOf outline.new used.new) }
-    ensures refused { IfErr result (λ r. (r ≡ Memory) ⊎ IsRefusedBy image.now.disk (named_command command.now) r) }
+    ensures cut { IfOk result (λ carried. (v : Volume) → IsJudged v (named_command command.now) outline.old
+        → IsCutReady v (named_command command.now) used.new carried.blocks.items outline.new) }
+    ensures gone { IfOk result (λ carried. (b : ℕ) → times b carried.gone.items ≡ freed_uses outline.old (named_command command.now) b) }
+    ensures front { IfOk result (λ carried. IsCleanFrom carried.front outline.new.directories) }
+    ensures table { OnOk result (IsTableOf (grown (named_command command.now) outline.old) used.new) }
+    ensures refused { IfErr result (λ r. (r ≡ Memory)
+        ⊎ ((v : Volume) → IsJudged v (named_command command.now) outline.old → verdict v (named_command command.now) ≡ Some r)) }
 {
-    carrying_laws();
-    images_mount_to_one_tree();
     outlines_are_sound();
     names_are_ordered();
     counts_grow();
-    tables_follow();
-    let _size = image.size();
+    let front = count_in_front(outline, command);
     let count = count_after(command, outline.count);
     lengthen(alloc, outline, used, count)?;
     let gone = freed_blocks(alloc, outline, command)?;
-    let CarriedOut { patch, blocks } = carry_over(alloc, image, outline, command, used)?;
-    used.take(&blocks);
-    used.give_back(&gone);
-    Ok(patch)
+    let blocks = carry_over(alloc, outline, front, command, used)?;
+    Ok(Carried {
+        blocks,
+        gone,
+        front,
+    })
+}
+
+/// Takes the marks of a command off an outline that is cut, and makes the table of used blocks that of what the command leaves. Takes no memory.
+pub(crate) fn settle(outline: &mut Outline, used: &mut UsedBlocks, carried: &Carried)
+    requires table { LeadsToTable used.old carried.now.blocks.items carried.now.gone.items (clean outline.old) }
+    requires front { IsCleanFrom carried.now.front outline.old.directories }
+    ensures outline { outline.new ≡ clean outline.old }
+    ensures table { IsTableOf (clean outline.old) used.new }
+{
+    clean(outline, carried.front);
+    used.take(&carried.blocks);
+    used.give_back(&carried.gone);
+}
+
+/// Carries out a command on the outline of a volume, and on the table of the blocks that it uses: they become those of what the command leaves.
+/// The caller owes a volume as images hold it, that they are its own, and names. Refusals are as of `carry_out`. Where it is refused, outline and
+/// table are of no use.
+///
+/// Source: own.
+pub fn carry(
+    alloc: Global,
+    outline: &mut Outline,
+    used: &mut UsedBlocks,
+    command: &Named<'_>,
+) -> Result<Carried, Refusal>
+    requires outline { (v : Volume) × IsOutlined v outline.old }
+    requires table { IsTableOf outline.old used.old }
+    requires names { HasNames (named_command command.now) }
+    ensures carried { IfOk result (λ carried. (v : Volume) → IsOutlined v outline.old
+        → IsCarriedOut v (named_command command.now) carried.blocks.items carried.gone.items outline.new) }
+    ensures table { OnOk result (IsTableOf outline.new used.new) }
+    ensures refused { IfErr result (λ r. (r ≡ Memory)
+        ⊎ ((v : Volume) → IsOutlined v outline.old → verdict v (named_command command.now) ≡ Some r)) }
+{
+    carrying_laws();
+    outlines_are_sound();
+    tables_follow();
+    judge(outline, command)?;
+    let carried = carry_judged(alloc, outline, used, command)?;
+    settle(outline, used, &carried);
+    Ok(carried)
 }

@@ -6,10 +6,10 @@ ghost use Rattle.lfs_fs.specs.Mounted.{IsOutlineOf};
 ghost use Rattle.lfs_fs.specs.Table.{IsTableOf};
 ghost use Rattle.lfs_command.specs.AskedFor.{asked_for, named_command};
 ghost use Rattle.lfs_command.specs.declared.refusal.Refusal.TheVariants.{Memory};
-ghost use Rattle.lfs_edit.specs.Carried.{IsFinished, IsJudged, IsRefusedBy};
+ghost use Rattle.lfs_edit.specs.Carried.{IsFinished, IsHeldJudged, IsRefusedBy};
 ghost use Rattle.lfs_command.specs.Planned.{Plans, RefusesPlan};
 
-use crate::carrying::carry_judged;
+use crate::patching::patch_judged;
 use lfs_block::{Image, Patch};
 use lfs_command::{Asked, Named, Refusal, by_names};
 use lfs_draft::judge;
@@ -26,7 +26,7 @@ fn carry_or_restore(
     used: &mut UsedBlocks,
     command: &Named<'_>,
 ) -> Result<Patch, Refusal>
-    requires judged { IsJudged image.now.disk (named_command command.now) outline.old }
+    requires judged { IsHeldJudged image.now.disk (named_command command.now) outline.old }
     requires table { IsTableOf outline.old used.old }
     ensures finished { IfOk result (λ patch. IsFinished image.now.disk (named_command command.now) patch outline.new) }
     ensures refused { IfErr result (λ r. IsRefusedBy image.now.disk (named_command command.now) r) }
@@ -35,7 +35,7 @@ fn carry_or_restore(
     ensures counted { IfErr result (λ r. (r ≡ Memory) ⊎ IsTableOf outline.new used.new) }
 {
     outlines_are_sound();
-    match carry_judged(alloc, image, outline, used, command) {
+    match patch_judged(alloc, image, outline, used, command) {
         Ok(patch) => Ok(patch),
         Err(Refusal::Memory) => Err(Refusal::Memory),
         Err(refusal) => {
@@ -86,6 +86,7 @@ pub fn carry_out(
     ensures counted { IfErr result (λ r. (r ≡ Memory) ⊎ IsTableOf outline.new used.new) }
 {
     outlines_are_judged_alike();
+    outlines_are_sound();
     let command = by_names(alloc, command)?;
     judge(outline, &command)?;
     carry_or_restore(alloc, image, outline, used, &command)

@@ -5,7 +5,7 @@ ghost use Rattle.lfs_fs.specs.Mounted.{IsMountOf};
 ghost use Rattle.lfs_command.specs.AskedFor.{asked_for};
 ghost use Rattle.lfs_command.specs.Planned.{Plans, RefusesPlan};
 
-use crate::carrying::carry_judged;
+use crate::patching::patch_judged;
 use lfs_block::{Image, Patch};
 use lfs_command::{Asked, Refusal, by_names};
 use lfs_draft::judge;
@@ -33,5 +33,5 @@ pub fn plan(
     judge(mounted.outline(), &command)?;
     let mut outline = outline_of(alloc, image)?;
     let mut used = outline.used_blocks(alloc)?;
-    carry_judged(alloc, image, &mut outline, &mut used, &command)
+    patch_judged(alloc, image, &mut outline, &mut used, &command)
 }

@@ -1,3 +1,4 @@
+pub mod FrontLemmas
 pub mod HostNameLemmas
 pub mod MakingLemmas
 pub mod NameLemmas

@@ -1,9 +1,10 @@
 -- What is made row by row.
-use Rattle.std.proofs.Common.{◌≡◌, ◌≢◌, ℕ, List, [], ◌∷◌, ◌++◌, Option, None, Some, Result, Ok, Err, MatchResult, refl, ap, sym, subst, ◌∙◌}
-use Rattle.std.proofs.Common.{append_assoc, append-nil, Bor, map}
-use Rattle.std.specs.Prelude.{All, Contains}
+use Rattle.std.proofs.Common.{◌≡◌, ◌≢◌, ◌<◌, ℕ, false, List, [], ◌∷◌, ◌++◌, Option, None, Some, Result, Ok, Err, MatchResult, refl, ap, sym, subst, ◌∙◌}
+use Rattle.std.proofs.Common.{append_assoc, append-nil, arith, Bor, map}
+use Rattle.std.specs.Prelude.{All, Contains, IfSome, is_some}
+use Rattle.std.specs.Str.{IsUtf8}
 use Rattle.std.specs.Result.{result_err}
-use Rattle.std.proofs.lemmas.List.Elements.{All-contains_itself, All-head, All-tail, All-weaker}
+use Rattle.std.proofs.lemmas.List.Elements.{All-contains, All-contains_itself, All-head, All-tail, All-weaker}
 use Rattle.lfs_block.specs.Disk.{Disk, IsDisk}
 use Rattle.lfs_meta.specs.Name.{Name}
 use Rattle.lfs_fs.specs.Path.{Path}
@@ -11,9 +12,12 @@ use Rattle.lfs_fs.specs.Row.{Row}
 use Rattle.lfs_fs.specs.RowShown.{HasBlocks, RowsShowTheTree}
 use Rattle.lfs_fs.specs.Mounted.{MountedValue, IsMountOf}
 use Rattle.lfs_fs.specs.Listed.{Listed, path_after, row_after, rows_after}
+use Rattle.lfs_command.specs.PathMap.{below}
 use Rattle.lfs_extract.specs.PathBelow.{host_name}
+use Rattle.lfs_extract.specs.RowsBelow.{row_below, rows_below}
 use Rattle.lfs_host.specs.NewFolder.{Made, Makes}
-use Rattle.lfs_extract.specs.Extracted.{Extracts, HaveTexts, IsHostText, JudgesNames, MakesFront, StayBelow, all_made, made_of}
+use Rattle.lfs_extract.specs.Extracted.{HaveTexts, IsHostText, JudgesNames, MakesFront, StayBelow, all_made, made_of}
+use Rattle.lfs_extract.proofs.FrontLemmas.{has_last}
 use Rattle.lfs_extract.specs.declared.extract_fault.ExtractFault.{ExtractFault}
 use Rattle.lfs_extract.specs.declared.extract_fault.ExtractFault.TheVariants.{Memory, HostName, CannotWrite}
 
@@ -42,62 +46,104 @@ all_way old new whole h = subst (Makes old new) (sym (append-nil h.front) ∙ h.
 -- ---- rows
 
 -- the rows that are left
-pub record AreLeft (old new : Option (List Made)) (d : Disk) (dir : List ℕ) (left whole : List Row) : Type 0 where
-  pub way : IsOnWay old new (all_made d dir left) (all_made d dir whole)
+pub record AreLeft (old new : Option (List Made)) (d : Disk) (at : Path) (dir : List ℕ) (left whole : List Row) : Type 0 where
+  pub way : IsOnWay old new (all_made d dir (rows_below at left)) (all_made d dir (rows_below at whole))
   pub blocks : All (λ (r : Row). HasBlocks d r.entry.body) left
-  pub texts : HaveTexts left
+  pub texts : HaveTexts (rows_below at left)
 
-pub all_left : (old : Option (List Made)) (d : Disk) (dir : List ℕ) (rows : List Row) → All (λ (r : Row). HasBlocks d r.entry.body) rows
-    → HaveTexts rows → AreLeft old old d dir rows rows
-all_left old d dir rows blocks texts = record { way = on_way old (all_made d dir rows); blocks = blocks; texts = texts }
+pub all_left : (old : Option (List Made)) (d : Disk) (at : Path) (dir : List ℕ) (rows : List Row)
+    → All (λ (r : Row). HasBlocks d r.entry.body) rows → HaveTexts (rows_below at rows) → AreLeft old old d at dir rows rows
+all_left old d at dir rows blocks texts =
+    record { way = on_way old (all_made d dir (rows_below at rows)); blocks = blocks; texts = texts }
 
-module _ (old mid : Option (List Made)) (d : Disk) (dir : List ℕ) (q : Path) (left later : List Listed) (x : Listed) (whole : List Row)
-    (h : AreLeft old mid d dir (rows_after q left) whole) (first : left ≡ x ∷ later) where
+module _ (old mid : Option (List Made)) (d : Disk) (at : Path) (dir : List ℕ) (q : Path) (left later : List Listed) (x : Listed) (whole : List Row)
+    (h : AreLeft old mid d at dir (rows_after q left) whole) (first : left ≡ x ∷ later) where
+  abbrev path : Path
+  path = path_after q x.depth x.entry.name
+
   abbrev next : List Row
-  next = rows_after (path_after q x.depth x.entry.name) later
+  next = rows_after path later
 
-  here : AreLeft old mid d dir (row_after q x ∷ next) whole
-  here = subst (λ (xs : List Listed). AreLeft old mid d dir (rows_after q xs) whole) first h
+  here : AreLeft old mid d at dir (row_after q x ∷ next) whole
+  here = subst (λ (xs : List Listed). AreLeft old mid d at dir (rows_after q xs) whole) first h
+
+  later_blocks : All (λ (r : Row). HasBlocks d r.entry.body) next
+  later_blocks = All-tail (λ (r : Row). HasBlocks d r.entry.body) (row_after q x) next here.blocks
+
+  way_by : (o : Option Path) → below at path ≡ o
+      → IsOnWay old mid (all_made d dir (row_below x.entry o (rows_below at next))) (all_made d dir (rows_below at whole))
+  way_by o is =
+      subst (λ (l : Option Path). IsOnWay old mid (all_made d dir (row_below x.entry l (rows_below at next))) (all_made d dir (rows_below at whole)))
+      is here.way
+
+  texts_by : (o : Option Path) → below at path ≡ o → HaveTexts (row_below x.entry o (rows_below at next))
+  texts_by o is = subst (λ (l : Option Path). HaveTexts (row_below x.entry l (rows_below at next))) is here.texts
 
   pub has_blocks : HasBlocks d x.entry.body
   has_blocks = All-head (λ (r : Row). HasBlocks d r.entry.body) (row_after q x) next here.blocks
 
-  pub has_text : IsHostText x.entry.name
-  has_text = All-head (λ (r : Row). IsHostText r.entry.name) (row_after q x) next here.texts
+  -- a row that is neither at the path nor below it
+  pub passed : below at path ≡ None → AreLeft old mid d at dir (rows_after (path_after q x.depth x.entry.name) later) whole
+  passed outside = record { way = way_by None outside; blocks = later_blocks; texts = texts_by None outside }
 
-  -- one more is made
-  pub one_more : (new : Option (List Made)) → Makes mid new (made_of d dir (row_after q x) ∷ [])
-      → AreLeft old new d dir (rows_after (path_after q x.depth x.entry.name) later) whole
-  one_more new made = record {
-    way = record {
-      front = here.way.front ++ made_of d dir (row_after q x) ∷ [];
-      made = makes_then old mid new here.way.front (made_of d dir (row_after q x) ∷ []) here.way.made made;
-      all = append_assoc here.way.front (made_of d dir (row_after q x) ∷ []) (all_made d dir next) ∙ here.way.all;
-    };
-    blocks = All-tail (λ (r : Row). HasBlocks d r.entry.body) (row_after q x) next here.blocks;
-    texts = All-tail (λ (r : Row). IsHostText r.entry.name) (row_after q x) next here.texts;
-  }
+  module _ (rest : Path) (inside : below at path ≡ Some rest) where
+    abbrev row : Row
+    row = record { path = rest; entry = x.entry }
 
-  -- or no more are
-  pub stopped : MakesFront old mid (all_made d dir whole)
-  stopped = record {
-    front = here.way.front;
-    next = made_of d dir (row_after q x);
-    rest = all_made d dir next;
-    split = here.way.all;
-    made = here.way.made;
-  }
+    pub has_texts : All IsHostText rest
+    has_texts = All-head (λ (r : Row). All IsHostText r.path) row (rows_below at next) (texts_by (Some rest) inside)
 
--- behind the path that was followed
-pub left_behind : (old new : Option (List Made)) (d : Disk) (dir : List ℕ) (p r : Path) (later : List Listed) (whole : List Row) → p ≡ r
-    → AreLeft old new d dir (rows_after r later) whole → AreLeft old new d dir (rows_after p later) whole
-left_behind old new d dir p r later whole same h = subst (λ (x : Path). AreLeft old new d dir (rows_after x later) whole) (sym same) h
+    -- one more is made
+    pub one_more : (new : Option (List Made)) → Makes mid new (made_of d dir (record { path = rest; entry = x.entry }) ∷ [])
+        → AreLeft old new d at dir (rows_after (path_after q x.depth x.entry.name) later) whole
+    one_more new made =
+        let way = way_by (Some rest) inside in
+        record {
+          way = record {
+            front = way.front ++ made_of d dir row ∷ [];
+            made = makes_then old mid new way.front (made_of d dir row ∷ []) way.made made;
+            all = append_assoc way.front (made_of d dir row ∷ []) (all_made d dir (rows_below at next)) ∙ way.all;
+          };
+          blocks = later_blocks;
+          texts = All-tail (λ (r : Row). All IsHostText r.path) row (rows_below at next) (texts_by (Some rest) inside);
+        }
 
-pub all_are_made : (old new : Option (List Made)) (d : Disk) (dir : List ℕ) (q : Path) (left : List Listed) (whole : List Row)
-    → AreLeft old new d dir (rows_after q left) whole → left ≡ [] → Makes old new (all_made d dir whole)
-all_are_made old new d dir q left whole h none =
-    let here : AreLeft old new d dir [] whole = subst (λ (xs : List Listed). AreLeft old new d dir (rows_after q xs) whole) none h in
-    all_way old new (all_made d dir whole) here.way
+    -- or no more are
+    pub stopped : MakesFront old mid (all_made d dir (rows_below at whole))
+    stopped =
+        let way = way_by (Some rest) inside in
+        record {
+          front = way.front;
+          next = made_of d dir row;
+          rest = all_made d dir (rows_below at next);
+          split = way.all;
+          made = way.made;
+        }
+
+-- ---- what is left of the path of a row
+
+pub not_below : (at p : Path) → false ≡ is_some (below at p) → below at p ≡ None
+not_below at p is = by (below at p) is
+  where
+    by : (o : Option Path) → false ≡ is_some o → o ≡ None
+    by None none = refl
+    by (Some rest) none = absurd cc
+
+pub root_left : (at left : Path) → left ≡ [] → IfSome (below at []) (λ rest. rest ≡ left)
+root_left [] left is = sym is
+root_left (n ∷ at) left is = tt
+
+pub none_left : (at p left : Path) → below at p ≡ None → IfSome (below at p) (λ rest. rest ≡ left)
+none_left at p left none = subst (λ (o : Option Path). IfSome o (λ rest. rest ≡ left)) (sym none) tt
+
+pub some_left : (at p left : Path) → below at p ≡ Some left → IfSome (below at p) (λ rest. rest ≡ left)
+some_left at p left is = subst (λ (o : Option Path). IfSome o (λ rest. rest ≡ left)) (sym is) refl
+
+-- the last name that is left is a text
+pub last_text : (left : Path) (more depth : ℕ) (n : Name) → depth ≡ more → All IsHostText (path_after left more n) → depth ≢ 0 → IsUtf8 n
+last_text left more depth n same texts some' =
+    let above : 0 < more = omega (arith, same, some') in
+    (All-contains IsHostText (path_after left more n) n texts (has_last left more n above)).text
 
 -- a text that is joined of texts, whose path is known
 pub named_at : (dir text joined : List ℕ) (texts items : List (Bor Name)) (p : Path) → text ≡ joined
@@ -117,17 +163,6 @@ rows_have_blocks shows d disk m is =
 -- what making rows answers, where all names are texts
 abbrev pub IsMade : Result (Unit {0}) ExtractFault → Option (List Made) → Option (List Made) → List Made → Type 0
 IsMade result old new whole = MatchResult result (λ _. Makes old new whole) (λ fault. (fault ≢ HostName) × MakesFront old new whole)
-
-extracts_by : (fault : ExtractFault) (old new : Option (List Made)) (whole : List Made) → fault ≢ HostName → MakesFront old new whole
-    → Extracts (Some fault) old new whole
-extracts_by Memory old new whole other front = front
-extracts_by HostName old new whole other front = absurd (other refl)
-extracts_by CannotWrite old new whole other front = front
-
-pub extracts : (result : Result (Unit {0}) ExtractFault) (old new : Option (List Made)) (whole : List Made) → IsMade result old new whole
-    → Extracts (result_err result) old new whole
-extracts (Ok done) old new whole made = made
-extracts (Err fault) old new whole (other, front) = extracts_by fault old new whole other front
 
 judges_by : (fault : ExtractFault) (rows : List Row) → fault ≢ HostName → StayBelow rows → JudgesNames (Some fault) rows
 judges_by Memory rows other stay = stay

@@ -49,13 +49,13 @@ pub record IsHostText (n : Name) : Type 0 where
   pub text : IsUtf8 n
   pub no_zero : All (λ b. b ≢ 0) n
 
--- each name is such a text
+-- each name of the paths is such a text
 abbrev pub HaveTexts : List Row → Type 0
-HaveTexts rows = All (λ r. IsHostText r.entry.name) rows
+HaveTexts rows = All (λ r. All IsHostText r.path) rows
 
 -- some name is none
 abbrev pub HasOtherName : List Row → Type 0
-HasOtherName rows = (r : Row) × Contains rows r × ¬ IsHostText r.entry.name
+HasOtherName rows = (r : Row) × (n : Name) × Contains rows r × Contains r.path n × ¬ IsHostText n
 
 -- each path goes down from the folder: its names are not empty, hold no slash and no byte of zero, aren't `.` or `..`, and are UTF-8
 abbrev pub StayBelow : List Row → Type 0

@@ -4,5 +4,6 @@ pub mod PathBelow
 pub mod FolderRows
 pub mod FolderWalk
 pub mod Making
+pub mod RowsBelow
 pub mod Extracted
 pub mod TreeMade

@@ -1,11 +1,11 @@
 //! Paths of rows, and a host's names of them.
 
-ghost use Rattle.std.specs.Prelude.{◌≡◌, IfOk, OnOk, map, string_bytes};
+ghost use Rattle.std.specs.Prelude.{◌≡◌, ◌≢◌, IfOk, OnOk, map, string_bytes};
 ghost use Rattle.std.specs.Str.{IsUtf8};
 ghost use Rattle.lfs_fs.specs.Listed.{path_after};
 ghost use Rattle.lfs_extract.specs.PathBelow.{host_name};
 
-use lfs_fs::{Row, follow};
+use lfs_fs::follow;
 use std::alloc::{AllocError, Global};
 
 /// A name as a text. The caller owes that it is UTF-8.
@@ -19,13 +19,21 @@ fn text_of(name: &[u8]) -> &str
     }
 }
 
-/// Turns the path of a row into that of the next one, whose name is UTF-8.
-pub(crate) fn follow_row<'a>(path: &mut Vec<&'a str>, next: &Row<'a>) -> Result<(), AllocError>
-    requires { IsUtf8 next.now.entry.name }
-    ensures { OnOk result (map (λ n. n.now) path.new.items
-        ≡ path_after (map (λ n. n.now) path.old.items) next.now.depth next.now.entry.name) }
+/// Turns what is left of a row's path into that of a later one, of which so many names are left, this one last. The caller owes that it is
+/// UTF-8, where one is.
+pub(crate) fn follow_rest<'a>(
+    rest: &mut Vec<&'a str>,
+    depth: usize,
+    name: &'a [u8],
+) -> Result<(), AllocError>
+    requires { depth ≢ 0 → IsUtf8 name.now }
+    ensures { OnOk result (map (λ n. n.now) rest.new.items ≡ path_after (map (λ n. n.now) rest.old.items) depth name.now) }
 {
-    follow(path, next.depth, text_of(next.name))?;
+    if depth == 0 {
+        rest.clear();
+        return Ok(());
+    }
+    follow(rest, depth, text_of(name))?;
     Ok(())
 }
 

@@ -7,6 +7,7 @@ mod extracting;
 mod file_sink;
 mod folder_fault;
 mod folder_row;
+mod front;
 mod host_names;
 mod host_path;
 mod making;

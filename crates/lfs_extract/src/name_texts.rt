@@ -2,8 +2,12 @@
 
 ghost use Rattle.std.specs.Prelude.{MatchBool};
 ghost use Rattle.lfs_fs.specs.Listed.{rows_listed};
+ghost use Rattle.lfs_fs.specs.Path.{Path};
+ghost use Rattle.lfs_listing.specs.Below.{names};
 ghost use Rattle.lfs_extract.specs.Extracted.{HasOtherName, HaveTexts, IsHostText};
+ghost use Rattle.lfs_extract.specs.RowsBelow.{IsDeeper, IsFront, rows_below};
 
+use crate::front::Front;
 use lfs_fs::Rows;
 
 /// Whether a name is UTF-8 with no byte of zero.
@@ -13,12 +17,23 @@ fn is_host_text(name: &[u8]) -> bool
     std::str::from_utf8(name).is_ok() && !name.contains(&0)
 }
 
-/// Whether each name of rows is UTF-8 with no byte of zero.
-pub(crate) fn have_host_texts(rows: Rows<'_>) -> bool
-    ensures { MatchBool result (HaveTexts (rows_listed rows.entry)) (HasOtherName (rows_listed rows.entry)) }
+/// Whether the path of a row is below another one, and its last name isn't UTF-8 or holds a byte of zero.
+fn has_other_name(front: Front, at: &[&[u8]], name: &[u8]) -> bool
+    ensures { (path : Path) → IsFront (names at.now) path front
+        → MatchBool result (IsDeeper (names at.now) path × ¬ IsHostText name.now) (IsDeeper (names at.now) path → IsHostText name.now) }
 {
+    front.is_below(at) && front.more(at) > 0 && !is_host_text(name)
+}
+
+/// Whether each name behind a path, of the rows at it and below it, is UTF-8 with no byte of zero. Takes no memory.
+pub(crate) fn have_host_texts(rows: Rows<'_>, at: &[&[u8]]) -> bool
+    ensures { MatchBool result (HaveTexts (rows_below (names at.now) (rows_listed rows.entry)))
+        (HasOtherName (rows_below (names at.now) (rows_listed rows.entry))) }
+{
+    let mut front = Front::new();
     for row in rows {
-        if !is_host_text(row.name) {
+        front = front.behind(at, &row);
+        if has_other_name(front, at, row.name) {
             return false;
         }
     }

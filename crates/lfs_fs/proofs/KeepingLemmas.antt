@@ -1,9 +1,8 @@
 -- One entry kept.
-use Rattle.std.proofs.Common.{◌≡◌, ◌≢◌, ℕ, ◌+◌, ◌<◌, ◌≤◌, Bool, true, false, List, [], ◌∷◌, ◌++◌, length, map, Option, Some, None, refl, ap}
+use Rattle.std.proofs.Common.{◌≡◌, ◌≢◌, ℕ, ◌+◌, ◌<◌, ◌≤◌, Bool, true, false, List, [], ◌∷◌, ◌++◌, length, Option, Some, None, refl, ap}
 use Rattle.std.proofs.Common.{sym, ◌∙◌, subst, arith}
 use Rattle.std.specs.Prelude.{All, IsSome, sum_by, MatchBool}
 use Rattle.std.specs.List.{Any}
-use Rattle.std.proofs.lemmas.List.Elements.{All-cons, All-nil}
 use mathlib.Core.Logic.{inl, inr}
 use Rattle.lfs_block.specs.Disk.{Disk}
 use Rattle.lfs_file.specs.SkipList.{chain_of}
@@ -22,12 +21,11 @@ use Rattle.lfs_fs.specs.declared.limits.Limits.{Limits}
 use Rattle.lfs_fs.specs.Entry.{Entry, Body, Chain, body_length}
 use Rattle.lfs_fs.specs.Uses.{entry_uses, body_uses}
 use Rattle.lfs_fs.specs.Used.{marked, AddsBlocks}
-use Rattle.lfs_fs.specs.Sound.{IsProper}
 use Rattle.lfs_fs.specs.Reading.{Reading, reading_of}
 use Rattle.lfs_fs.specs.Held.{chained, resolved_body, resolved}
 use Rattle.lfs_fs.specs.FrontCause.{IsOversized, stored_size, stored_name_length}
-use Rattle.lfs_fs.specs.Outlined.{blank, outlined_body, outlined_entry}
-use Rattle.lfs_fs.specs.Gathering.{HasNoChain, stored_length, KeepsBody, IsWithin, KeepsEntry, stored_uses}
+use Rattle.lfs_fs.specs.Outlined.{blank, outlined_body}
+use Rattle.lfs_fs.specs.Gathering.{HasNoChain, stored_length, KeepsBody, IsWithin, stored_uses}
 use Rattle.lfs_fs.proofs.SuperblockLemmas.{are_attributes}
 use Rattle.lfs_fs.proofs.ResolvedLemmas.{stood_for, resolved_is}
 
@@ -102,22 +100,3 @@ one_use : (r : Reading) (b : ℕ) (e : StoredEntry) → e.kind ≢ Super → sto
 one_use r b e other =
     let one : resolved r e ≡ stood_for r e ∷ [] = resolved_is r e other in
     ap (λ (es : List Entry). sum_by (entry_uses b) (es ++ [])) one ∙ omega arith
-
-pub entry_kept : (r : Reading) (l : Limits) (old new : List Bool) (e : StoredEntry) (body : Body) → NamesAreDecided → e.kind ≢ Super
-    → IsWhole e → IsWithin l e → KeepsBody r old new e.body body
-    → KeepsEntry r l old new e (record { name = e.name; body = body; attributes = e.attributes })
-entry_kept r l old new e body law other whole within keeps =
-    let one : resolved r e ≡ stood_for r e ∷ [] = resolved_is r e other in
-    record {
-      is = ap (map outlined_entry) one ∙ ap (λ (x : Body). record { name = e.name; body = x; attributes = e.attributes } ∷ [])
-          (sym keeps.is);
-      len = keeps.len;
-      marks = λ b. keeps.marks b ∙ ap (λ n. marked old b + n) (sym (one_use r b e other));
-      resolved_one = (other, chain_there r e.body keeps.chain);
-      proper = subst (All (IsProper l)) (sym one) (All-cons (IsProper l) (stood_for r e) [] (record {
-        name = named e.kind e.name law other whole.name;
-        name_fits = within.name;
-        file_fits = let same = keeps.size in let fits = within.size in omega arith;
-        attributes = within.attributes;
-      }) (All-nil (IsProper l)));
-    }

@@ -110,10 +110,6 @@ pairs_same : (ps : List Part) → map (λ (p : Part). p.pair) (map outlined_part
 pairs_same [] = refl
 pairs_same (p ∷ ps) = ap (λ (ks : List Pair). p.pair ∷ ks) (pairs_same ps)
 
-pub outlined_pairs : (v : Volume) → map (λ (p : Part). p.pair) (thread (outlined v).directories)
-    ≡ map (λ (p : Part). p.pair) (thread v.directories)
-outlined_pairs v = ap (map (λ (p : Part). p.pair)) (outlined_thread v.directories) ∙ pairs_same (thread v.directories)
-
 -- ---- directories
 
 pub outlined_begins : (k : Pair) (v : Volume) → count_by (begins_at k) (outlined v).directories ≡ count_by (begins_at k) v.directories

@@ -51,7 +51,7 @@ pub(crate) fn gather<B: Blocks>(alloc: Global, blocks: &B) -> Result<Gathered, M
     let limits = judged(&superblock, size, count)?;
     let joined = read_thread(alloc, blocks, limits, table, root)?;
     settled(&joined.state)?;
-    let directories = joined.into_directories()?;
+    let directories = joined.into_directories(alloc)?;
     Ok(Gathered {
         outline: Outline {
             size,

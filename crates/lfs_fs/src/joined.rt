@@ -39,6 +39,7 @@ fn is_hard(tail: Tail) -> bool
 
 /// Puts parts behind the others as one directory, if there are any. Takes memory.
 fn push_directory(
+    alloc: Global,
     directories: &mut Vec<OutlineDirectory>,
     mut parts: Vec<OutlinePart>,
 ) -> Result<(), AllocError>
@@ -48,7 +49,7 @@ fn push_directory(
         return Ok(());
     }
     let first = parts.remove(0);
-    push(directories, OutlineDirectory { first, more: parts })?;
+    push(directories, OutlineDirectory::new(alloc, first, parts)?)?;
     Ok(())
 }
 
@@ -83,7 +84,7 @@ impl Joined {
         push(&mut self.parts, part)?;
         if !goes_on {
             let parts = replace(&mut self.parts, Vec::new(alloc));
-            push_directory(&mut self.directories, parts)?;
+            push_directory(alloc, &mut self.directories, parts)?;
         }
         Ok(())
     }
@@ -136,7 +137,7 @@ impl Joined {
     }
 
     /// The directories, the one that goes on as the last of them. Takes memory.
-    pub(crate) fn into_directories(self) -> Result<Vec<OutlineDirectory>, AllocError>
+    pub(crate) fn into_directories(self, alloc: Global) -> Result<Vec<OutlineDirectory>, AllocError>
         ensures directories { IfOk result (λ all. all.items ≡ self.directories.items ++ as_directory self.parts.items) }
     {
         let Joined {
@@ -144,7 +145,7 @@ impl Joined {
             parts,
             ..
         } = self;
-        push_directory(&mut directories, parts)?;
+        push_directory(alloc, &mut directories, parts)?;
         Ok(directories)
     }
 }

@@ -4,7 +4,7 @@ ghost use Rattle.std.specs.Prelude.{◌≡◌, ◌++◌, OnOk, IfOk, reverse};
 ghost use Rattle.lfs_fs.specs.Thread.{links, links_of};
 
 use crate::known_part::KnownPart;
-use crate::outline_directory::OutlineDirectory;
+use crate::outline_directory::{OutlineDirectory, OutlineParts};
 use crate::pushing::push;
 use lfs_meta::Tail;
 use std::alloc::{AllocError, Global};
@@ -18,7 +18,7 @@ fn push_directory(
 ) -> Result<(), AllocError>
     ensures { OnOk result (parts.new.items ≡ parts.old.items ++ reverse (links_of directory.first directory.more tail)) }
 {
-    let OutlineDirectory { first, mut more } = directory;
+    let OutlineParts { first, mut more } = Box::into_inner(directory.parts);
     let mut tail = tail;
     'each: while let Some(part) = more.pop() {
         let (one, other) = part.pair();
@@ -39,7 +39,7 @@ pub(crate) fn known_thread(
     let mut parts = Vec::new(alloc);
     let mut tail = Tail::End;
     'each: while let Some(directory) = directories.pop() {
-        let (one, other) = directory.first.pair();
+        let (one, other) = directory.parts.first.pair();
         push_directory(&mut parts, directory, tail)?;
         tail = Tail::Soft(one, other);
     }

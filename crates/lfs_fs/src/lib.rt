@@ -64,7 +64,7 @@ pub use mounting::mount;
 pub use names::precedes;
 pub use outline::Outline;
 pub use outline_body::OutlineBody;
-pub use outline_directory::OutlineDirectory;
+pub use outline_directory::{OutlineDirectory, OutlineParts};
 pub use outline_entry::OutlineEntry;
 pub use outline_part::OutlinePart;
 pub use outlining::outline_of;

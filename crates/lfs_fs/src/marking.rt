@@ -69,8 +69,8 @@ fn mark_parts(used: &mut [bool], parts: &[OutlinePart])
 fn mark_directory(used: &mut [bool], directory: &OutlineDirectory)
     ensures { MarksMore used.old used.new (λ b. directory_uses b directory.now) }
 {
-    mark_part(used, &directory.first);
-    mark_parts(used, &directory.more);
+    mark_part(used, &directory.parts.first);
+    mark_parts(used, &directory.parts.more);
 }
 
 /// Marks the blocks that directories use.

@@ -122,7 +122,7 @@ fn regather<B: Blocks>(
         next: _,
     } = reread_thread(alloc, blocks, limits, table, known, started)?;
     settled(&joined.state)?;
-    let directories = joined.into_directories()?;
+    let directories = joined.into_directories(alloc)?;
     Ok(Gathered {
         outline: Outline {
             size,

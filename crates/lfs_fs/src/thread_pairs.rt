@@ -26,8 +26,8 @@ fn push_directory(
 ) -> Result<(), AllocError>
     ensures { OnOk result (pairs.new.items ≡ pairs.old.items ++ map (λ p. p.pair) (parts directory.now)) }
 {
-    push(pairs, directory.first.pair())?;
-    push_pairs(pairs, &directory.more)
+    push(pairs, directory.parts.first.pair())?;
+    push_pairs(pairs, &directory.parts.more)
 }
 
 /// The pairs of the thread that these directories make. Takes memory.

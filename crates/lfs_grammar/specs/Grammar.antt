@@ -189,6 +189,7 @@ rule_at argument.NewDir = word (codes "dir")
 rule_at argument.Path = word (codes "path")
 rule_at argument.SyncedPath = path_or_root
 rule_at argument.ListedPath = path_or_root
+rule_at argument.ExtractedPath = path_or_root
 rule_at argument.SyncedDir = word (codes "dir")
 rule_at argument.Contents = contents
 rule_at argument.Script = script
@@ -285,7 +286,7 @@ commands =
     ∷ making (codes "pack") (word (codes "dir") ∷ count ∷ size ∷ flag (codes "least") ∷ [])
     ∷ repack
     ∷ (command (codes "find") (word (codes "flash") ∷ [])).top
-    ∷ asking (codes "extract") (word (codes "dir") ∷ [])
+    ∷ asking (codes "extract") (word (codes "dir") ∷ path_or_root ∷ [])
     ∷ asking (codes "salvage") (word (codes "dir") ∷ [])
     ∷ asking (codes "check") []
     ∷ asking (codes "ls") (path_or_root ∷ [])

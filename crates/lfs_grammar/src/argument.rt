@@ -81,6 +81,8 @@ pub(crate) enum Argument {
     SyncedPath,
     /// The same, of what is listed.
     ListedPath,
+    /// The same, of what a folder is made of.
+    ExtractedPath,
     /// The name of a folder that an image is made like.
     SyncedDir,
     /// The name of the file that contents are read from.
@@ -380,6 +382,13 @@ static LISTED_PATH: ArgumentRow = ArgumentRow {
     help: "Path in the image that is listed, from / on, with all below it; all of the image where none is said",
 };
 
+/// What a folder is made of.
+static EXTRACTED_PATH: ArgumentRow = ArgumentRow {
+    id: "path",
+    form: Form::SpareWord("PATH"),
+    help: "Path in the image that the folder is made of, from / on, with all below it; all of the image where none is said",
+};
+
 /// The name of a folder that an image is made like.
 static SYNCED_DIR: ArgumentRow = ArgumentRow {
     id: "dir",
@@ -476,6 +485,7 @@ fn row_of(argument: Argument) -> &'static ArgumentRow
         Argument::Path => &PATH,
         Argument::SyncedPath => &SYNCED_PATH,
         Argument::ListedPath => &LISTED_PATH,
+        Argument::ExtractedPath => &EXTRACTED_PATH,
         Argument::SyncedDir => &SYNCED_DIR,
         Argument::Contents => &CONTENTS,
         Argument::Script => &SCRIPT,

@@ -117,6 +117,7 @@ static COMMANDS: [CommandRow; 25] = [
             Argument::Block,
             Argument::Image,
             Argument::NewDir,
+            Argument::ExtractedPath,
             Argument::Device,
             Argument::Offset,
             Argument::Older,

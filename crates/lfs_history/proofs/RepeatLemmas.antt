@@ -1,6 +1,5 @@
 -- Moves that are made so many times.
 use Rattle.std.proofs.Common.{◌≡◌, ℕ, zero, suc, ◌+◌, List, [], ◌∷◌, ◌++◌, length, refl, ap, sym, ◌∙◌, subst, arith}
-use Rattle.std.proofs.lemmas.List.{same_from_push}
 use Rattle.lfs_block.specs.Disk.{Disk}
 use Rattle.lfs_block.specs.Patch.{ChangeSet}
 use Rattle.lfs_history.specs.History.{History}
@@ -65,12 +64,6 @@ length_next d ds es is = let a = ap length is in omega arith
 pub undone_past : (n : ℕ) (old new : History) → Repeats Undoes n old new → length old.past ≡ length new.past + n
 undone_past = falls (λ h. length h.past) Undoes (λ old new u. length_next new.present new.past old.past u.past)
 
-pub undone_future : (n : ℕ) (old new : History) → Repeats Undoes n old new → length new.future ≡ length old.future + n
-undone_future = rises (λ h. length h.future) Undoes (λ old new u. length_next old.present old.future new.future u.future)
-
-pub redone_past : (n : ℕ) (old new : History) → Repeats Redoes n old new → length new.past ≡ length old.past + n
-redone_past = rises (λ h. length h.past) Redoes (λ old new u. length_next old.present old.past new.past u.past)
-
 pub redone_future : (n : ℕ) (old new : History) → Repeats Redoes n old new → length old.future ≡ length new.future + n
 redone_future = falls (λ h. length h.future) Redoes (λ old new u. length_next new.present new.future old.future u.future)
 
@@ -104,14 +97,6 @@ same_history h k past present future done undone =
     ∙ ap (λ (ps : List ChangeSet). of_parts k.past k.present k.future ps h.undone) done
     ∙ ap (of_parts k.past k.present k.future k.done) undone
 
--- a history that is left by an undo is one alone
-undone_once : (old mid new : History) → Redoes old mid → Undoes mid new → new ≡ old
-undone_once old mid new r u =
-    let front = same_front new.present old.present new.past old.past (sym u.past ∙ r.past) in
-    let changes = same_from_push new.done old.done u.change r.change (sym u.done ∙ r.done) in
-    same_history new old front.1 front.0 (u.future ∙ sym r.future) changes.0
-    (u.undone ∙ ap (λ (p : ChangeSet). p ∷ mid.undone) changes.1 ∙ sym r.undone)
-
 -- and so is one that is left by a redo
 redone_once : (old mid new : History) → Undoes old mid → Redoes mid new → new ≡ old
 redone_once old mid new u r =
@@ -122,9 +107,6 @@ redone_once old mid new u r =
 
 pub undone_and_redone : (n : ℕ) (old mid new : History) → Repeats Undoes n old mid → Repeats Redoes n mid new → new ≡ old
 undone_and_redone = there_and_back Undoes Redoes redone_once
-
-pub redone_and_undone : (n : ℕ) (old mid new : History) → Repeats Redoes n old mid → Repeats Undoes n mid new → new ≡ old
-redone_and_undone = there_and_back Redoes Undoes undone_once
 
 pub redo_exact : RedoIsExact
 redo_exact steps old new (mid, there, (last, again, same)) = same ∙ undone_and_redone steps old mid last there again

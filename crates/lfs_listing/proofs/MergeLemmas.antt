@@ -84,13 +84,6 @@ pub record IsTold (told : Bool) (waits rest whole : List ℕ) : Type 0 where
   pub some : is_some_text whole ≡ (told || is_some_text (waits ++ rest))
   pub waiting : is_some_text waits ≡ true → told ≡ true
 
-pub front_told : (front rest : List ℕ) → IsTold (is_some_text front) front rest (front ++ rest)
-front_told front rest = record {
-  some = some_of front rest ∙ twice (is_some_text front) (is_some_text rest)
-      ∙ ap (λ (b : Bool). is_some_text front || b) (sym (some_of front rest));
-  waiting = λ is. is;
-}
-
 told_on : (mid new : Option (List ℕ)) (told : Bool) (waits rest longer less after whole : List ℕ) → IsTold told waits rest whole
     → longer ++ less ≡ waits ++ rest → SendsFront mid new longer after → IsTold (told || is_some_text longer) after less whole
 told_on mid new told waits rest longer less after whole h same (gone, sent, is) =

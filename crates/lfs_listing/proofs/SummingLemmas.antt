@@ -1,12 +1,12 @@
 -- What rows take with those below them.
-use Rattle.std.proofs.Common.{◌≡◌, ℕ, ◌+◌, ◌-◌, ◌<◌, ◌≤◌, Bool, true, false, List, [], ◌∷◌, cond, drop, drop-cons, get_or, length, set, refl, ap, sym, subst, ◌∙◌}
-use Rattle.std.proofs.Common.{arith, inl, inr, zero, suc, get_or-set_same, get_or-set_other}
+use Rattle.std.proofs.Common.{◌≡◌, ℕ, ◌+◌, ◌-◌, ◌<◌, ◌≤◌, Bool, true, false, List, [], ◌∷◌, cond, drop, drop-cons, get_or, length, refl, ap, sym, subst, ◌∙◌}
+use Rattle.std.proofs.Common.{arith, inl, inr, zero, suc}
 use Rattle.std.specs.Prelude.{nat_lt, slice_index, sum}
 use Rattle.std.proofs.lemmas.Bool.{cases_eq, cases_lt}
 use Rattle.std.proofs.lemmas.Bool.Decides.{nat_tests}
 use Rattle.std.proofs.lemmas.List.{drop_all}
 use Rattle.std.proofs.lemmas.List.Sums.{sum_by-cons, sum_by-drop_more, sum_by-take-drop}
-use Rattle.lfs_listing.specs.Summing.{AreDeeper, AreSummed, IsNext, deeper_sum, depth_sum}
+use Rattle.lfs_listing.specs.Summing.{AreDeeper, IsNext, deeper_sum, depth_sum}
 
 -- what is deeper than a depth, from a row on
 abbrev deeper_from : List ℕ → List ℕ → ℕ → ℕ → ℕ
@@ -116,26 +116,3 @@ deeper_more ds row next after above deeper h k from to = elim (cases_lt k next) 
     | inr other ↦ let less : next < k = omega (arith, behind, other) in omega (arith, deeper, h.deeper k less to)
   ]
 ]
-
-pub summed_more : (ds cs old_sums old_nexts sums nexts : List ℕ) (row total next : ℕ) → row < length ds → length old_sums ≡ length ds
-    → length old_nexts ≡ length ds → sums ≡ set old_sums row total → nexts ≡ set old_nexts row next → total ≡ depth_sum ds cs row
-    → IsNext ds row next → AreSummed ds cs old_sums old_nexts (row + 1) → AreSummed ds cs sums nexts row
-summed_more ds cs old_sums old_nexts sums nexts row total next within long_sums long_nexts sums_is nexts_is total_is next_is h = record {
-  are = λ i from to. elim (cases_eq i row) [
-    | inl is ↦
-        ap (λ (xs : List ℕ). get_or xs i 0) sums_is ∙ ap (λ (k : ℕ). get_or (set old_sums row total) k 0) is
-        ∙ get_or-set_same old_sums row total 0 (omega arith) ∙ total_is ∙ ap (depth_sum ds cs) (sym is)
-    | inr other ↦
-        ap (λ (xs : List ℕ). get_or xs i 0) sums_is ∙ get_or-set_other old_sums row i total 0 other ∙ h.are i (omega (arith, from, other)) to
-  ];
-  behind = λ i from to. elim (cases_eq i row) [
-    | inl is ↦
-        let at : slice_index nexts i ≡ next = ap (λ (xs : List ℕ). get_or xs i 0) nexts_is
-        ∙ ap (λ (k : ℕ). get_or (set old_nexts row next) k 0) is ∙ get_or-set_same old_nexts row next 0 (omega arith) in
-        subst (λ (k : ℕ). IsNext ds k (slice_index nexts i)) (sym is) (subst (IsNext ds row) (sym at) next_is)
-    | inr other ↦
-        let at : slice_index nexts i ≡ slice_index old_nexts i =
-        ap (λ (xs : List ℕ). get_or xs i 0) nexts_is ∙ get_or-set_other old_nexts row i next 0 other in
-        subst (IsNext ds i) (sym at) (h.behind i (omega (arith, from, other)) to)
-  ];
-}

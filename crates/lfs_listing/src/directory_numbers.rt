@@ -16,7 +16,7 @@ use std::marker::Model;
 fn key_block(directory: &OutlineDirectory) -> u32
     ensures { result ≡ key_block directory.now }
 {
-    let (first, second) = directory.first.pair;
+    let (first, second) = directory.parts.first.pair;
     if first <= second { first } else { second }
 }
 

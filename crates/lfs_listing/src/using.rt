@@ -48,8 +48,8 @@ fn give_parts(users: &mut [Option<usize>], parts: &[OutlinePart], number: usize)
 fn give_directory(users: &mut [Option<usize>], directory: &OutlineDirectory, number: usize)
     ensures { users.new ≡ fold (give number) users.old (directory_blocks (Some directory.now)) }
 {
-    give_part(users, &directory.first, number);
-    give_parts(users, &directory.more, number);
+    give_part(users, &directory.parts.first, number);
+    give_parts(users, &directory.parts.more, number);
 }
 
 /// Notes a row by its number for the blocks that it has, where none is noted yet: those of its directory, or of its file's chain. Takes

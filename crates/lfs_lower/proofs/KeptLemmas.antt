@@ -45,9 +45,6 @@ pub record IsReadTo (in_root : Bool) (old now : List Edit) (left whole : Option 
   pub is : now ≡ old ++ more
   pub seen : option_map (commit_kept in_root (items more)) left ≡ option_map (commit_kept in_root []) whole
 
-pub read_first : (in_root : Bool) (old : List Edit) (whole : Option CommitFront) → IsReadTo in_root old old whole whole
-read_first in_root old whole = record { more = []; is = sym (append-nil old); seen = refl }
-
 seen_with : (in_root : Bool) (before : List Item) (t : Item) (o : Option CommitFront)
     → option_map (commit_kept in_root (before ++ kept in_root (t ∷ []))) o ≡ option_map (commit_kept in_root before) (option_map (with_tag t) o)
 seen_with in_root before t None = refl

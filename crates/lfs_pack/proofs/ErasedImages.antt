@@ -6,13 +6,13 @@ use Rattle.std.proofs.Math.Nat.{eq_of_mul-eq-mul_right, mul-le-mul_right, mul-mo
 use Rattle.std.proofs.lemmas.List.{drop-replicate, length-replicate, take-replicate}
 use Rattle.std.proofs.lemmas.Nat.{div-mul-add}
 use Rattle.lfs_block.specs.Bytes.{IsBytes}
-use Rattle.lfs_block.specs.Disk.{Disk, IsDisk}
+use Rattle.lfs_block.specs.Disk.{Disk, IsDisk, block_of}
 use Rattle.lfs_block.specs.Geometry.{IsGeometry}
 use Rattle.lfs_block.specs.ImageFault.{IsNoImage}
 use Rattle.lfs_block.specs.declared.image_fault.ImageFault.{ImageFault}
 use Rattle.lfs_block.specs.declared.image_fault.ImageFault.TheVariants.{ImageLength, BadGeometry}
 use Rattle.lfs_file.proofs.LaidByteLemmas.{IsBytes-fill}
-use Rattle.lfs_pack.specs.Built.{AreErasedFrom, IsErased}
+use Rattle.lfs_pack.specs.Unwritten.{IsErased}
 
 -- ---- they are no fault
 
@@ -47,8 +47,8 @@ module _ (d : Disk) (n : ℕ) (disk : IsDisk d) (are : d.bytes ≡ replicate n 0
   long : n ≡ d.count * d.size
   long = sym (length-replicate n 255) ∙ ap (λ (bs : List ℕ). length bs) (sym are) ∙ disk.len
 
-  all_erased : AreErasedFrom 0 d
-  all_erased b le lt =
+  all_erased : (b : ℕ) → b < d.count → block_of d b ≡ replicate d.size 0xff
+  all_erased b lt =
       let above : b + 1 ≤ d.count = omega (arith, lt) in
       let more : (b + 1) * d.size ≤ d.count * d.size = mul-le-mul_right d.size above in
       ap (λ (bs : List ℕ). take d.size (drop (b * d.size) bs)) are

@@ -1,44 +1,57 @@
--- The outline of a volume that is built can be written, and the image holds it then.
-use Rattle.std.proofs.Common.{◌≡◌, ◌<◌, ◌≤◌, ◌==◌, ℕ, List, ap, sym, ◌∙◌, subst, arith}
-use Rattle.std.specs.Prelude.{All, nat_le, replicate}
-use Rattle.std.proofs.lemmas.Bool.Decides.{nat_tests}
-use Rattle.lfs_fs.specs.Directory.{Directory, thread}
-use Rattle.lfs_fs.specs.Outlined.{outlined}
+-- The outline of a volume whose parts aren't written yet can be written, and the image holds it then.
+use Rattle.std.proofs.Common.{◌<◌, ℕ, ap, sym, ◌∙◌, subst, arith}
+use Rattle.std.specs.Prelude.{All, replicate}
+use Rattle.std.proofs.lemmas.List.{length-map}
+use Rattle.std.proofs.lemmas.List.Elements.{All-map, All-weaker}
+use Rattle.lfs_block.specs.Disk.{Disk}
+use Rattle.lfs_fs.specs.Directory.{Part, thread}
+use Rattle.lfs_fs.specs.Outlined.{outlined, outlined_entry, outlined_part}
 use Rattle.lfs_fs.specs.SoundOutlines.{OutlinesAreSound}
-use Rattle.lfs_fs.specs.Uses.{uses}
+use Rattle.lfs_fs.specs.Volume.{Volume}
+use Rattle.lfs_fs.specs.Weight.{weight}
+use Rattle.lfs_law.proofs.OutlineDirectories.{thread_outlined}
+use Rattle.lfs_law.proofs.OutlineEntries.{weight_same}
+use Rattle.lfs_law.proofs.OutlineRoom.{sum_over}
 use Rattle.lfs_pack.specs.NewImages.{HoldsNew, NewImagesHold}
 use Rattle.lfs_pack.specs.OutlinesTaken.{FitsNewPair, SoundOutlinesCanBeTaken}
-use Rattle.lfs_pack.specs.Finished.{BuiltCanBeFinished}
+use Rattle.lfs_pack.specs.Unwritten.{UnwrittenCanBeFinished}
 
-behind : (n next b : ℕ) → n ≡ 0 → (n == 0) ≡ nat_le next b → next ≤ b
-behind n next b none free = grind (arith, nat_tests)
+-- a part's outline has as many entries, of the same weight
+outline_fits : (d : Disk) (v : Volume) (p : Part) → FitsNewPair d v p → FitsNewPair d (outlined v) (outlined_part p)
+outline_fits d v p fits = record {
+  few = omega (arith, fits.few, length-map p.entries outlined_entry);
+  light = omega (arith, fits.light, sum_over weight weight outlined_entry weight_same p.entries);
+  none = fits.none;
+  erased = fits.erased;
+}
 
 -- each part fits its new pair, and the contents of the files are there
-pub built_can_be_finished : OutlinesAreSound → SoundOutlinesCanBeTaken → NewImagesHold → BuiltCanBeFinished
-built_can_be_finished sound taken hold d next above deepest closed names v built = record {
-  can = taken d (outlined v) built.disk (sound v built.sound) built.size built.count
-      (subst (λ (ds : List Directory). All (FitsNewPair d (outlined v)) (thread ds)) (sym built.directories) built.fit);
+pub unwritten_can_be_finished : OutlinesAreSound → SoundOutlinesCanBeTaken → NewImagesHold → UnwrittenCanBeFinished
+unwritten_can_be_finished sound taken hold d v work = record {
+  can = taken d (outlined v) work.disk (sound v work.holdable.sound) work.size work.count
+      (subst (All (FitsNewPair d (outlined v))) (sym (thread_outlined v.directories))
+      (All-map (FitsNewPair d (outlined v)) outlined_part (thread v.directories)
+      (All-weaker (FitsNewPair d v) (λ (p : Part). FitsNewPair d (outlined v) (outlined_part p)) (outline_fits d v) (thread v.directories)
+      work.fit)));
   finished = λ e outline.
       let new : HoldsNew d e v = hold d e v (record {
-        disk = built.disk;
-        sound = built.sound;
-        clean = built.clean;
-        size = built.size;
-        count = built.count;
-        limits = built.limits;
-        there = built.there;
+        disk = work.disk;
+        sound = work.holdable.sound;
+        clean = work.holdable.clean;
+        size = work.size;
+        count = work.count;
+        limits = work.holdable.limits;
+        there = work.there;
         outline = outline;
       }) in
       record {
         holds = new.holds;
-        sound = built.sound;
-        size = built.size ∙ sym outline.but.disk.size;
-        count = built.count ∙ sym outline.but.disk.count;
+        sound = work.holdable.sound;
+        size = work.size ∙ sym outline.but.disk.size;
+        count = work.count ∙ sym outline.but.disk.count;
         filled = new.filled;
         erased = λ b lt none.
             let below : b < d.count = omega (arith, lt, outline.but.disk.count) in
-            let free : (uses b v == 0) ≡ nat_le next b = built.free b (omega (arith, below, built.count)) in
-            new.others b none ∙ built.erased b (behind (uses b v) next b none free) below
-            ∙ ap (λ (n : ℕ). replicate n 0xff) (sym outline.but.disk.size);
+            new.others b none ∙ work.erased b below none ∙ ap (λ (n : ℕ). replicate n 0xff) (sym outline.but.disk.size);
       };
 }

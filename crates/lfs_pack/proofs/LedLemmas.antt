@@ -21,8 +21,11 @@ use Rattle.lfs_law.proofs.CarriedFollow.{CarriedFollow}
 use Rattle.lfs_pack.specs.Packed.{Packed, packed_node, packed_at, making, setting, row_commands, commands}
 use Rattle.lfs_pack.specs.Packed.{PackedRise, KindsRise}
 use Rattle.lfs_pack.specs.Lead.{Lead}
-use Rattle.lfs_pack.proofs.OpenedLemmas.{if_true}
 use Rattle.lfs_pack.specs.Laws.{LedToTheirMap}
+
+if_true : {X : Type 0} (b : Bool) (x y : X) → b ≡ true → (if b then x else y) ≡ x
+if_true true x y is = refl
+if_true false x y is = absurd cc
 
 -- ---- maps
 

@@ -5,7 +5,7 @@ use Rattle.lfs_command.specs.declared.refusal.Refusal.{Refusal}
 use Rattle.lfs_command.specs.Command.{Command}
 use Rattle.lfs_command.specs.Verdict.{verdict}
 use Rattle.lfs_pack.specs.Lead.{Lead}
-use Rattle.lfs_pack.specs.RowsAdded.{AreStopped}
+use Rattle.lfs_pack.specs.Stopped.{AreStopped}
 
 pub led_on : (cs ds : List Command) (v u w : Volume) → Lead cs v u → Lead ds u w → Lead (cs ++ ds) v w
 led_on [] ds v u w is more = subst (λ (x : Volume). Lead ds x w) is more

@@ -1,5 +1,5 @@
 -- Blocks from one on.
-use Rattle.std.proofs.Common.{◌≡◌, ◌+◌, ◌-◌, ◌<◌, ◌≤◌, ◌==◌, ℕ, suc, zero, Bool, true, false, List, [], ◌∷◌, ◌++◌, take, refl, ap, sym, ◌∙◌, arith, ◌⊎◌, inl, inr, cond}
+use Rattle.std.proofs.Common.{◌≡◌, ◌+◌, ◌-◌, ◌<◌, ◌≤◌, ◌==◌, ℕ, suc, zero, Bool, true, false, List, [], ◌∷◌, take, refl, ap, sym, ◌∙◌, arith, ◌⊎◌, inl, inr, cond}
 use Rattle.std.specs.Prelude.{nat_le}
 use Rattle.std.specs.List.{filter, range_with_len}
 use Rattle.std.proofs.lemmas.Bool.Decides.{nat_tests}
@@ -11,18 +11,6 @@ pub take_range : (from n k : ℕ) → k ≤ n → take k (range_with_len from n)
 take_range from n zero le = refl
 take_range from zero (suc k) le = absurd (omega (arith, le))
 take_range from (suc n) (suc k) le = ap (λ (l : List ℕ). from ∷ l) (take_range (from + 1) n k (omega (arith, le)))
-
--- and the last two
-pub two_behind : (from k : ℕ) → range_with_len from (k + 2) ≡ range_with_len from k ++ (from + k) ∷ (from + k + 1) ∷ []
-two_behind from zero =
-    let here : from + 0 ≡ from = omega arith in
-    ap (λ (n : ℕ). n ∷ (n + 1) ∷ []) (sym here)
-two_behind from (suc k) =
-    let more : suc k + 2 ≡ suc (k + 2) = omega arith in
-    let first : from + 1 + k ≡ from + suc k = omega arith in
-    ap (range_with_len from) more
-    ∙ ap (λ (l : List ℕ). from ∷ l) (two_behind (from + 1) k)
-    ∙ ap (λ (n : ℕ). (from ∷ range_with_len (from + 1) k) ++ n ∷ (n + 1) ∷ []) first
 
 -- how often a number stands there
 abbrev pub once_if : Bool → Bool → ℕ

@@ -1,17 +1,19 @@
--- The contents of a built volume's files are there in an image that leaves its blocks, and those of one that a command leaves.
-use Rattle.std.proofs.Common.{ℕ, List, sym, subst, map, arith}
-use Rattle.std.specs.Prelude.{All, Contains}
+-- The contents of a volume's files are there in an image that leaves its blocks, and those of one that a command leaves.
+use Rattle.std.proofs.Common.{◌≡◌, ◌<◌, ◌≤◌, ℕ, List, sym, subst, map, arith}
+use Rattle.std.specs.Prelude.{All, Contains, sum_by}
 use Rattle.std.proofs.lemmas.List.Elements.{All-contains, All-contains_itself, All-map, All-weaker}
 use Rattle.std.proofs.lemmas.List.Folds.{flat_map-map}
-use Rattle.lfs_block.specs.Disk.{Disk, IsDisk}
+use Rattle.lfs_block.specs.Disk.{Disk, IsDisk, block_of}
 use Rattle.lfs_file.specs.Laws.{ContentStays, FoundStay}
 use Rattle.lfs_meta.specs.RunLaws.{RunsJoin}
 use Rattle.lfs_fs.specs.Directory.{Directory, Part, entries, parts, thread}
 use Rattle.lfs_fs.specs.Entry.{Body, Entry}
 use Rattle.lfs_fs.specs.Reading.{Reading, reading_of}
-use Rattle.lfs_fs.specs.Sound.{IsSound}
 use Rattle.lfs_fs.specs.Thread.{Link, links}
+use Rattle.lfs_fs.specs.Uses.{entry_uses, part_uses, uses}
 use Rattle.lfs_fs.specs.Volume.{Volume}
+use Rattle.lfs_fs.proofs.ChainedLemmas.{parts_of_links}
+use Rattle.lfs_fs.proofs.CountLemmas.{element_le}
 use Rattle.lfs_command.specs.Clean.{cleaned}
 use Rattle.lfs_command.specs.Command.{Command}
 use Rattle.lfs_command.specs.Cut.{cut}
@@ -19,14 +21,10 @@ use Rattle.lfs_command.specs.DirectoryEdit.{each_part}
 use Rattle.lfs_command.specs.Edited.{edited}
 use Rattle.lfs_command.specs.Planned.{CarriesOut}
 use Rattle.lfs_law.specs.OutlineLaws.{IsThere}
-use Rattle.lfs_law.proofs.KnownBodies.{Bodies, OfBodies, OfNew, by_parts, cut_bodies, edited_bodies, link_has}
-use Rattle.lfs_fs.proofs.ChainedLemmas.{parts_of_links}
-use Rattle.lfs_law.proofs.WrittenLemmas.{chain_by}
 use Rattle.lfs_law.proofs.CommandsWritten.{body_stays}
-use Rattle.lfs_pack.specs.OneMore.{AreFreeFrom}
-use Rattle.lfs_pack.specs.Built.{AreThere}
-use Rattle.lfs_pack.proofs.Leaving.{Leaves}
-use Rattle.lfs_pack.proofs.UsedBefore.{chain_before}
+use Rattle.lfs_law.proofs.KnownBodies.{Bodies, OfBodies, OfNew, by_parts, cut_bodies, edited_bodies, link_has}
+use Rattle.lfs_law.proofs.WrittenLemmas.{chain_by, sum_thread}
+use Rattle.lfs_pack.specs.Unwritten.{AreThere}
 
 -- ---- bodies that are there
 
@@ -40,10 +38,18 @@ parts_there d v there =
     (All-contains_itself l.part.entries))
     (links v.directories) (All-contains_itself (links v.directories))))
 
--- the blocks of the volume come before those that differ
-pub bodies_kept : FoundStay → ContentStays → (d f : Disk) (next before : ℕ) (v : Volume) → IsDisk d → IsSound v → AreFreeFrom v next
-    → Leaves d next before f → AreThere d v → Bodies (IsThere (reading_of f)) v.directories
-bodies_kept found content d f next before v disk sound free leaves there =
+-- the blocks of a chain are used
+chain_used : (v : Volume) (p : Part) → Contains (thread v.directories) p → (x : Entry) → Contains p.entries x → (b : ℕ) → 0 < entry_uses b x
+    → 0 < uses b v
+chain_used v p there x inside b used =
+    let one : entry_uses b x ≤ sum_by (entry_uses b) p.entries = element_le (entry_uses b) p.entries x inside in
+    let all : part_uses b p ≤ sum_by (part_uses b) (thread v.directories) = element_le (part_uses b) (thread v.directories) p there in
+    omega (arith, one, all, used, sum_thread b v.directories)
+
+-- blocks that the volume uses stay
+pub bodies_kept : FoundStay → ContentStays → (d f : Disk) (v : Volume) → IsDisk d → f.size ≡ d.size → d.count ≤ f.count
+    → ((b : ℕ) → 0 < uses b v → block_of f b ≡ block_of d b) → AreThere d v → Bodies (IsThere (reading_of f)) v.directories
+bodies_kept found content d f v disk size count stays there =
     by_parts (IsThere (reading_of f)) v.directories
     (All-weaker (Contains (thread v.directories)) (λ (p : Part). OfBodies (IsThere (reading_of f)) p.entries) in_part
     (thread v.directories) (All-contains_itself (thread v.directories)))
@@ -57,10 +63,15 @@ bodies_kept found content d f next before v disk sound free leaves there =
     in_part p at =
         All-weaker (Contains p.entries) (λ (x : Entry). IsThere (reading_of f) x.body)
         (λ x inside. body_stays (reading_of d) (reading_of f) x.body
-        (chain_by found content d f disk x.body leaves.disk.size (omega (arith, leaves.disk.count))
-        (λ b used. leaves.ahead b (chain_before v next sound free p at x inside b used)))
+        (chain_by found content d f disk x.body size count (λ b used. stays b (chain_used v p at x inside b used)))
         (was p at x inside))
         p.entries (All-contains_itself p.entries)
+
+-- so their contents are still there
+pub still_there : FoundStay → ContentStays → (d f : Disk) (v : Volume) → IsDisk d → f.size ≡ d.size → d.count ≤ f.count
+    → ((b : ℕ) → 0 < uses b v → block_of f b ≡ block_of d b) → AreThere d v → AreThere f v
+still_there found content d f v disk size count stays there =
+    link_has (IsThere (reading_of f)) v.directories (bodies_kept found content d f v disk size count stays there)
 
 -- ---- what a command leaves
 

@@ -1,17 +1,12 @@
--- An image into which the outline of a volume that is built is written (own).
-use Rattle.std.specs.Prelude.{ℕ, ◌≡◌, ◌<◌, List, replicate}
+-- An image of a volume whose parts are all new (own).
+use Rattle.std.specs.Prelude.{ℕ, ◌≡◌, ◌<◌, replicate}
 use Rattle.lfs_block.specs.Disk.{Disk, block_of}
-use Rattle.lfs_fs.specs.Directory.{Directory}
 use Rattle.lfs_fs.specs.Holds.{Holds}
-use Rattle.lfs_fs.specs.Outlined.{outlined}
-use Rattle.lfs_fs.specs.Path.{Path}
 use Rattle.lfs_fs.specs.Reading.{reading_of}
 use Rattle.lfs_fs.specs.Sound.{IsSound}
 use Rattle.lfs_fs.specs.Uses.{uses}
 use Rattle.lfs_fs.specs.Volume.{Volume}
-use Rattle.lfs_pack.specs.Filled.{CanTakeOutline, TakesOutline}
 use Rattle.lfs_pack.specs.NewImages.{AreFilled}
-use Rattle.lfs_pack.specs.Built.{IsBuilt}
 
 -- each block that a volume doesn't use is erased
 abbrev pub AreErasedBeside : Volume → Disk → Type 0
@@ -25,13 +20,3 @@ pub record IsNewImageOf (v : Volume) (d : Disk) : Type 0 where
   pub count : v.count ≡ d.count
   pub filled : AreFilled d v
   pub erased : AreErasedBeside v d
-
--- Its outline can be written into the image, which then is its new image.
-pub record CanBeFinished (d : Disk) (v : Volume) : Type 0 where
-  pub can : CanTakeOutline d (outlined v)
-  pub finished : (e : Disk) → TakesOutline d e (outlined v) → IsNewImageOf v e
-
--- the law: so it is
-abbrev pub BuiltCanBeFinished : Type 0
-BuiltCanBeFinished = (d : Disk) (next : ℕ) (above : List Directory) (deepest : Directory) (closed : List Directory) (names : Path) (v : Volume)
-    → IsBuilt d next above deepest closed names v → CanBeFinished d v

@@ -4,7 +4,7 @@ use Rattle.lfs_block.specs.Geometry.{IsGeometry}
 use Rattle.lfs_fs.specs.declared.limits.Limits.{Limits}
 use Rattle.lfs_fs.specs.Formatted.{empty_volume}
 use Rattle.lfs_fs.specs.Volume.{Volume}
-use Rattle.lfs_pack.specs.NewVolumes.{UsesFirst}
+use Rattle.lfs_pack.specs.FirstBlocks.{UsesFirst}
 use Rattle.lfs_pack.specs.Lead.{Lead}
 use Rattle.lfs_pack.specs.Packed.{Packed, commands}
 

@@ -38,6 +38,11 @@ making [] bytes = []
 making (n ∷ p) None = Mkdir (n ∷ p) ∷ []
 making (n ∷ p) (Some bytes) = Put (n ∷ p) bytes ∷ []
 
+-- the command that makes it, below the root
+abbrev pub made_by : Path → Option (List ℕ) → Command
+made_by p None = Mkdir p
+made_by p (Some bytes) = Put p bytes
+
 -- its attributes are set, one after another
 abbrev pub setting : Path → Attributes → List Command
 setting p attributes = map (λ (a : ℕ × List ℕ). SetAttr p a.0 a.1) attributes

@@ -18,7 +18,7 @@ use Rattle.lfs_pack.specs.NewImages.{AreFilled}
 use Rattle.lfs_pack.specs.Finished.{AreErasedBeside}
 use Rattle.lfs_pack.specs.Packed.{Packed, commands, packed_at}
 use Rattle.lfs_pack.specs.Lead.{Lead}
-use Rattle.lfs_pack.specs.RowsAdded.{IsRowStopped}
+use Rattle.lfs_pack.specs.Stopped.{IsRowStopped}
 
 -- The bytes are an image with these limits, whose tree is the map of the rows. The volume is the one that the commands of the rows lead to
 -- from a new one: each of its parts stands alone in the first block of its pair, and all that it doesn't use is erased.

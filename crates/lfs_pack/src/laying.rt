@@ -1,31 +1,43 @@
-//! The contents of files in the image of a new volume.
+//! The contents of files that commands put into a new image.
+
+ghost use Rattle.std.specs.Prelude.{◌≡◌, ◌<◌, ◌≤◌, ◌^◌, All, AllPairs, OnOk, length, take};
+ghost use Rattle.lfs_fs.specs.DiskBut.{IsDiskBut};
+ghost use Rattle.lfs_fs.specs.Volume.{Volume};
+ghost use Rattle.lfs_command.specs.AskedFor.{contents_len, named_command};
+ghost use Rattle.lfs_command.specs.Need.{data_blocks};
+ghost use Rattle.lfs_command.specs.Planned.{HasLaid};
+ghost use Rattle.lfs_command.specs.Supplies.{Supplies};
+ghost use Rattle.lfs_law.specs.PlansHold.{content_blocks};
 
 use crate::contents::lay_contents;
-use crate::entries::{blocks_from, file_blocks};
-use crate::new_volume::NewVolume;
-use lfs_block::Blocks;
+use lfs_block::{Blocks, Image};
+use lfs_command::{Command, Named, data_blocks, most_inline};
 use std::alloc::{AllocError, Global};
 
-impl NewVolume {
-    ghost use Rattle.std.specs.Prelude.{◌≡◌, ◌+◌, ◌≤◌, ◌<◌, ◌^◌, OnOk, length};
-    ghost use Rattle.lfs_pack.specs.Adding.{LaysFile, file_blocks};
-    ghost use Rattle.lfs_pack.specs.Pushed.{IsWithImage};
-
-    /// Lays the contents of a file into the blocks from the first free one on, where they don't stand in its entry. The caller owes that
-    /// so many blocks are there, and fewer than 2^32 bytes.
-    pub(crate) fn lay(&mut self, alloc: Global, bytes: &[u8]) -> Result<(), AllocError>
-        requires len { length bytes.now < 2 ^ 32 }
-        requires fits { self.old.next + file_blocks self.old.image.disk.size bytes.now ≤ self.old.image.disk.count }
-        ensures laid { OnOk result (LaysFile self.old.image.disk self.old.next bytes.now self.new.image.disk) }
-        ensures others { OnOk result (IsWithImage self.old self.new) }
-    {
-        let size = self.image.size();
-        let count = file_blocks(size, bytes);
-        if count == 0 {
-            return Ok(());
+/// Lays what a command puts, where it doesn't stand in its entry, in the first of these blocks. The caller owes blocks of the image that rise
+/// strictly, as many as the command takes for contents, and fewer than 2^32 bytes.
+pub(crate) fn lay_for(
+    alloc: Global,
+    image: &mut Image,
+    command: &Named<'_>,
+    blocks: &[u32],
+) -> Result<(), AllocError>
+    requires rising { AllPairs ◌<◌ blocks.now }
+    requires below { All (λ b. b < image.old.disk.count) blocks.now }
+    requires enough { (v : Volume) → v.size ≡ image.old.disk.size → data_blocks v (named_command command.now) ≤ length blocks.now }
+    requires len { contents_len command.now < 2 ^ 32 }
+    ensures laid { OnOk result ((v : Volume) (s : Supplies) → v.size ≡ image.old.disk.size
+        → s.blocks ≡ take (data_blocks v (named_command command.now)) blocks.now → HasLaid v (named_command command.now) s image.new.disk) }
+    ensures others { OnOk result ((v : Volume) (s : Supplies) → v.size ≡ image.old.disk.size
+        → s.blocks ≡ take (data_blocks v (named_command command.now)) blocks.now
+        → IsDiskBut (content_blocks v (named_command command.now) s) image.old.disk image.new.disk) }
+{
+    let size = image.size();
+    match command {
+        Command::Put { bytes, .. } if bytes.len() > most_inline(size) as usize => {
+            let count = data_blocks(size, command) as usize;
+            lay_contents(alloc, image, bytes, &blocks[..count])
         }
-        let blocks = blocks_from(alloc, self.next, count)?;
-        lay_contents(alloc, &mut self.image, bytes, &blocks)?;
-        Ok(())
+        _ => Ok(()),
     }
 }

@@ -8,9 +8,9 @@ ghost use Rattle.lfs_pack.specs.Packed.{AreRowsOf, Packed};
 ghost use Rattle.lfs_pack.specs.Packing.{RefusesPack};
 
 use crate::pack_row::PackRow;
-use crate::packing::packed_volume;
+use crate::packing::packed_image;
 use crate::packing_laws::packing_laws;
-use lfs_block::MAX_IMAGE_LENGTH;
+use lfs_block::{Blocks, MAX_IMAGE_LENGTH};
 use lfs_command::Refusal;
 use lfs_fs::Limits;
 use std::alloc::Global;
@@ -51,6 +51,6 @@ pub fn least_count(
     packing_laws();
     let most = most_count(size);
     let mut at = 0;
-    let volume = packed_volume(alloc, size, most, limits, rows, &mut at)?;
-    Ok(volume.used())
+    let new = packed_image(alloc, size, most, limits, rows, &mut at)?;
+    Ok(new.image.count() - new.used.free_count())
 }

@@ -3,8 +3,8 @@
 ghost use Rattle.lfs_pack.specs.PackingLaws.{PackingLaws};
 
 use crate::laws::rows_are_led_to_their_map;
-use lfs_fs::texts_spell_one_path;
-use lfs_law::cuts_follow;
+use lfs_fs::{paths_are_ordered, texts_spell_one_path};
+use lfs_law::{cuts_follow, free_after};
 
 /// The laws that packing stands on. Takes no memory.
 pub(crate) fn packing_laws()
@@ -13,4 +13,6 @@ pub(crate) fn packing_laws()
     rows_are_led_to_their_map();
     texts_spell_one_path();
     cuts_follow();
+    paths_are_ordered();
+    free_after();
 }

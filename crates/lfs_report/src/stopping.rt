@@ -13,7 +13,7 @@ use lfs_block::{Blocks, Image, MountFault};
 use lfs_book::Journal;
 use lfs_command::Refusal;
 use lfs_history::{Move, StepFault};
-use lfs_request::{Fault, KeptJournal, Outcome, Request, Task};
+use lfs_request::{Fault, KeptJournal, Outcome, Place, Request, Task};
 use std::alloc::Global;
 
 /// Why bytes were refused as an image of blocks of `size` bytes, with what they state. Takes no memory.
@@ -84,17 +84,25 @@ fn refused_statement(
     }
 }
 
-/// Why a folder wasn't made of an image, with what that states, or with the place of its fault, whose text is put into `beside`. Takes
-/// memory, and tells of nothing more where it is refused.
+/// Why a folder wasn't made of an image for a task, with what that states, with the place of its fault, whose text is put into `beside`, or
+/// with what is known of the task's path at its place. Takes memory, and tells of nothing more where it is refused.
 ///
 /// Source: own.
-pub fn stop_of_extracting(alloc: Global, fault: Fault, image: Image, beside: &mut Beside) -> Stop
+pub fn stop_of_extracting(
+    alloc: Global,
+    task: &Task<'_>,
+    fault: Fault,
+    image: Image,
+    place: Option<Place>,
+    beside: &mut Beside,
+) -> Stop
     ensures { result.fault ≡ fault }
 {
     let size = image.size();
     let bytes = image.into_bytes();
     let statement = match fault {
         Fault::Mount(fault) => statement_of_bytes(alloc, size, fault, bytes, beside),
+        Fault::Refused(refusal) => path_statement(note_of(alloc, task, refusal, place)),
         fault => statement_for(fault, Sight::of(size, &bytes), Sight::none()),
     };
     Stop {

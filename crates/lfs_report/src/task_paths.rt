@@ -30,9 +30,10 @@ impl<'a> TaskPaths<'a> {
     pub(crate) fn of(task: &Task<'a>) -> Option<TaskPaths<'a>> {
         match task {
             Task::Ask {
-                query: Query::Cat { path },
+                query: Query::Cat { path } | Query::Ls { path },
                 ..
-            } => Some(TaskPaths {
+            }
+            | Task::Extract { path, .. } => Some(TaskPaths {
                 path: *path,
                 target: None,
             }),

@@ -1,8 +1,8 @@
 //! Where on its path a step is refused.
 
 use lfs_command::names_of;
-use lfs_draft::{entry_there, reach};
-use lfs_fs::{Limits, Outline};
+use lfs_draft::reach;
+use lfs_fs::{Limits, Outline, ROOT, entry_in};
 use std::alloc::Global;
 
 /// Where on its path a step is refused, for what is told of it.
@@ -62,8 +62,15 @@ impl Place {
 
 /// Whether names lead to a directory.
 fn is_directory(outline: &Outline, names: &[&[u8]]) -> bool {
-    match entry_there(outline, names) {
-        Ok(entry) => entry.target().is_some(),
-        Err(_) => false,
+    let mut pair = ROOT;
+    for name in names {
+        let Some(entry) = entry_in(&outline.directories, pair, name) else {
+            return false;
+        };
+        let Some(target) = entry.target() else {
+            return false;
+        };
+        pair = target;
     }
+    !names.is_empty()
 }

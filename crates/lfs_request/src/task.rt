@@ -39,10 +39,12 @@ pub enum Task<'a> {
         /// The greatest lengths of a name, a file and an attribute, as far as they are said; else those of the other image.
         limits: SaidLimits,
     },
-    /// A new folder of the host, with what is in the image.
+    /// A new folder of the host, with what stands in the image at the path of a directory and below it.
     Extract {
         /// The folder's name.
         dir: &'a str,
+        /// The path's text.
+        path: &'a [u8],
         /// How the image is looked at.
         view: View,
     },

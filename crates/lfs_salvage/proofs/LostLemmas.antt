@@ -1,12 +1,11 @@
 -- What is saved of areas to which no path leads, one after another.
 use Rattle.std.proofs.Common.{◌≡◌, ℕ, ◌+◌, ◌<◌, Bool, true, false, List, [], ◌∷◌, ◌++◌, Option, length, get_or, drop, refl, ap, sym, subst, ◌∙◌}
-use Rattle.std.specs.Prelude.{◌||◌, if◌then◌else◌, slice_set}
+use Rattle.std.specs.Prelude.{if◌then◌else◌, slice_set}
 use Rattle.std.proofs.lemmas.List.{at_drop_more}
 use Rattle.lfs_block.specs.Disk.{Disk}
 use Rattle.lfs_salvage.specs.AllMade.{all_lost_made, all_lost_unsaved, all_lost_uses, front_behind_all, lost_made, lost_unsaved, lost_uses, marked_used}
 use Rattle.lfs_salvage.specs.Fate.{is_free}
-use Rattle.lfs_salvage.specs.Losses.{is_lost, losses_from, pair_at}
-use Rattle.lfs_salvage.specs.AreaMade.{area_made, area_unsaved, area_uses}
+use Rattle.lfs_salvage.specs.AreaMade.{area_made, area_uses}
 use Rattle.lfs_salvage.specs.Lost.{area_folder, front_behind, front_made, has_start}
 use Rattle.lfs_salvage.specs.Numbered.{Numbered}
 use Rattle.lfs_salvage.specs.PartsUsed.{areas_uses, parts_uses}
@@ -18,8 +17,6 @@ use Rattle.lfs_extract.specs.Extracted.{MakesFront}
 use Rattle.lfs_host.specs.NewFolder.{Made, Makes}
 use Rattle.lfs_salvage.proofs.AreaLemmas.{Plan, plan_then}
 use Rattle.lfs_survey.specs.declared.area.Area.{Area}
-use Rattle.lfs_survey.specs.declared.call.Call.{Call}
-use Rattle.lfs_survey.specs.declared.found.Found.{Found}
 
 abbrev pub lost_plan : Disk → List ℕ → List ℕ → Front → ℕ → List BlockUse → List Area → List (List Numbered) → Plan
 lost_plan d dir lost front number uses areas numbered = record {
@@ -52,14 +49,6 @@ pub marked_more : (looked : List Bool) (i : ℕ) (uses : List BlockUse) (u : Blo
 marked_more looked i uses u within is =
     at_drop_more (marked_used looked i) uses i u within
     ∙ ap (λ (x : BlockUse). marked_used (if is_free x then looked else slice_set looked i true) (i + 1) (drop (i + 1) uses)) (sym is)
-
--- one pair more that may be lost
-pub losses_more : (areas : List Area) (uses : List BlockUse) (calls : List Call) (i : ℕ) (fs : List Found) (f : Found) → i < length fs
-    → f ≡ get_or fs i f → losses_from areas uses calls i (drop i fs)
-    ≡ (is_lost areas uses (pair_at calls i) f || losses_from areas uses calls (i + 1) (drop (i + 1) fs))
-losses_more areas uses calls i fs f within is =
-    at_drop_more (losses_from areas uses calls i) fs i f within
-    ∙ ap (λ (x : Found). is_lost areas uses (pair_at calls i) x || losses_from areas uses calls (i + 1) (drop (i + 1) fs)) (sym is)
 
 -- the host refuses the first of what is to be made
 pub front_refused : (old new : Option (List Made)) (one : Made) (rest : List Made) → new ≡ old → MakesFront old new (one ∷ rest)
@@ -101,16 +90,5 @@ pub some_used : (d : Disk) (number : ℕ) (uses : List BlockUse) (a : Area) → 
     → lost_uses d number uses a ≡ area_uses d number uses a
 some_used d number uses a is = ap (λ (t : Bool). if t then area_uses d number uses a else uses) is
 
-pub none_unsaved : (d : Disk) (number : ℕ) (uses : List BlockUse) (a : Area) → has_start a.found.items ≡ false
-    → lost_unsaved d number uses a ≡ []
-none_unsaved d number uses a is = ap (λ (t : Bool). if t then area_unsaved d number uses a else []) is
-
-pub some_unsaved : (d : Disk) (number : ℕ) (uses : List BlockUse) (a : Area) → has_start a.found.items ≡ true
-    → lost_unsaved d number uses a ≡ area_unsaved d number uses a
-some_unsaved d number uses a is = ap (λ (t : Bool). if t then area_unsaved d number uses a else []) is
-
 pub front_same : (front : Front) (a : Area) → has_start a.found.items ≡ false → front_behind front a ≡ front
 front_same front a is = ap (λ (t : Bool). if t then There else front) is
-
-pub front_there : (front : Front) (a : Area) → has_start a.found.items ≡ true → front_behind front a ≡ There
-front_there front a is = ap (λ (t : Bool). if t then There else front) is

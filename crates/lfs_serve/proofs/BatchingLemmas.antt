@@ -1,5 +1,5 @@
 -- The steps of a script, and how they end.
-use Rattle.std.proofs.Common.{◌≡◌, ◌⊎◌, ◌<◌, ◌+◌, ℕ, Bor, Bool, true, false, List, [], ◌∷◌, ◌++◌, Option, suc, drop, add-one, drop-cons}
+use Rattle.std.proofs.Common.{◌≡◌, ◌⊎◌, ◌<◌, ◌+◌, ℕ, Bor, Bool, true, List, [], ◌∷◌, ◌++◌, Option, suc, drop, add-one, drop-cons}
 use Rattle.std.proofs.Common.{get_or, length, map, take, refl, sym, ap, ap₂, subst, ◌∙◌, arith, inl, inr}
 use Rattle.std.proofs.lemmas.Grind.{flat_map-append}
 use Rattle.std.proofs.lemmas.List.{append-nil, append_assoc, length-take-le, map-append, take_more}
@@ -140,16 +140,6 @@ commands_further moves i d step old new within at so_far is =
     ∙ ap commands_in (sym (map-append step_of (take i moves) (step ∷ [])))
     ∙ ap (λ (ms : List OnBytes). commands_in (map step_of ms))
     (ap (λ (m : OnBytes). take i moves ++ m ∷ []) at ∙ sym (take_more moves i d within))
-
--- steps that are no one change stay as they are
-pub as_they_are : (one : Bool) (keep : Option ℕ) (moves : List change.Move) → one ≡ false → moves ≡ as_asked one keep moves
-as_they_are one keep [] is = refl
-as_they_are one keep (move ∷ moves) is = rw (is) refl
-
-pub none_as_asked : (one : Bool) (keep : Option ℕ) (moves : List OnBytes) → length moves ≡ 0
-    → map step_of moves ≡ as_asked one keep (map step_of moves)
-none_as_asked one keep [] none = refl
-none_as_asked one keep (move ∷ moves) none = absurd (omega (arith, none))
 
 -- those that are have their commands in one
 pub as_one : (one : Bool) (keep : Option ℕ) (moves : List OnBytes) (asked : List Asked) → one ≡ true → 0 < length moves

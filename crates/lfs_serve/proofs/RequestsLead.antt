@@ -51,9 +51,6 @@ use Rattle.lfs_serve.proofs.StepLemmas.{handed_from}
 longer : (name more : List ℕ) → 0 < length more → ¬ (name ≡ name ++ more)
 longer name more some same = omega (arith, ap length same, length-append name more, some)
 
-other_ends : (name a b : List ℕ) → ¬ (length a ≡ length b) → ¬ (name ++ a ≡ name ++ b)
-other_ends name a b differ same = differ (omega (arith, ap length same, length-append name a, length-append name b))
-
 -- the name of an image, and that of its journal, are none of what is to become them
 image_apart : (name : List ℕ) → Apart name (new_names name)
 image_apart name = (
@@ -320,7 +317,7 @@ good_step (task.Pack extent limits dir) size scene (Pack count stated rows) (fol
 good_step (task.Repack source extent said) size scene (Pack count stated rows) packs =
     (all_packed (image_of source.size packs.image) packs.mounted.rows, packs.rows_are)
 good_step (task.Format many limits) size scene (Pack count stated rows) becomes = absurd becomes
-good_step (task.Extract dir view) size scene (Pack count stated rows) becomes = absurd becomes
+good_step (task.Extract dir path view) size scene (Pack count stated rows) becomes = absurd becomes
 good_step (task.Salvage dir view) size scene (Pack count stated rows) becomes = absurd becomes
 good_step (task.Ask query view) size scene (Pack count stated rows) becomes = absurd becomes
 good_step task.Forget size scene (Pack count stated rows) becomes = absurd becomes
@@ -345,10 +342,10 @@ stopped size name t scene behind fault old new h (inl denotes) = Leads h refl de
 stopped size name t scene behind fault old new h (inr torn) = Tears torn
 
 -- a folder that is made leaves the history
-extracted : (fault : Option Fault) (size : ℕ) (dir : Bor (List ℕ)) (view : View) (scene : Scene) (h : History)
-    → TaskGoesBy fault size (task.Extract dir view) scene h h
-extracted None size dir view scene h = refl
-extracted (Some fault) size dir view scene h = refl
+extracted : (fault : Option Fault) (size : ℕ) (dir path : Bor (List ℕ)) (view : View) (scene : Scene) (h : History)
+    → TaskGoesBy fault size (task.Extract dir path view) scene h h
+extracted None size dir path view scene h = refl
+extracted (Some fault) size dir path view scene h = refl
 
 salvaged : (fault : Option Fault) (size : ℕ) (dir : Bor (List ℕ)) (view : View) (scene : Scene) (h : History)
     → TaskGoesBy fault size (task.Salvage dir view) scene h h
@@ -397,8 +394,8 @@ step_ends laws (Some fault) t older size name scene behind old new h turn for be
 task_ends : Laws → (fault : Option Fault) (t : Task) (older : Bool) (size : ℕ) (name : List ℕ) (scene behind : Scene) (old new : Files) (h : History)
     → scene.files ≡ Some old → behind.files ≡ Some new → FilesDenote size name old h → EndsTask t older size name scene behind fault
     → Ends size name t scene behind fault old new h
-task_ends laws fault (task.Extract dir view) older size name scene behind old new h before later denotes ends =
-    Leads h (extracted fault size dir view scene h) (same_files size name old new h (sym later ∙ ends.0.0 ∙ before) denotes)
+task_ends laws fault (task.Extract dir path view) older size name scene behind old new h before later denotes ends =
+    Leads h (extracted fault size dir path view scene h) (same_files size name old new h (sym later ∙ ends.0.0 ∙ before) denotes)
 task_ends laws fault (task.Salvage dir view) older size name scene behind old new h before later denotes ends =
     Leads h (salvaged fault size dir view scene h) (same_files size name old new h (sym later ∙ ends.0.0 ∙ before) denotes)
 task_ends laws fault (task.Format count limits) older size name scene behind old new h before later denotes ends =

@@ -16,6 +16,7 @@ use Rattle.lfs_request.specs.declared.fault.Fault.{Fault}
 use Rattle.lfs_request.specs.declared.fault.Fault.TheVariants.{Image, Refused}
 use Rattle.lfs_request.specs.declared.manner.Manner.{Manner}
 use Rattle.lfs_exchange.specs.Handing.{IsUnread, most_image}
+use Rattle.lfs_fs.specs.Path.{path_text}
 use Rattle.lfs_serve.specs.Extracting.{EndsMaking}
 use Rattle.lfs_serve.specs.Later.{later_alone, refused_by}
 use Rattle.lfs_serve.specs.ReadBy.{IsReadBy}
@@ -37,18 +38,18 @@ module _ (dir : List ℕ) (tree : Option HostTree) (old : Option (List Made)) (n
 
   module _ (i : Disk) (is : IsDisk i) where
     -- it mounts, and a folder is made of it
-    mounted_ends : (own : Option (List ℕ)) (fault : Option Fault) → IsOther fault → EndsMaking i dir tree old new fault
+    mounted_ends : (own : Option (List ℕ)) (fault : Option Fault) → IsOther fault → EndsMaking i (path_text []) dir tree old new fault
         → EndsKept own i.size i.bytes dir tree old new fault
     mounted_ends own (Some (Image fault)) other ends = absurd ends
     mounted_ends own fault other ends =
         let same = sym (image_of_disk i is) in
-        (subst (λ (x : Disk). IsDisk x) same is, inl (other, subst (λ (x : Disk). EndsMaking x dir tree old new fault) same ends))
+        (subst (λ (x : Disk). IsDisk x) same is, inl (other, subst (λ (x : Disk). EndsMaking x (path_text []) dir tree old new fault) same ends))
 
     -- memory is wanting before it is saved
     pub no_memory_ends : (own : Option (List ℕ)) (ended : Option Fault) → new.made ≡ old → ended ≡ Some (Refused Memory)
         → EndsKept own i.size i.bytes dir tree old new ended
     no_memory_ends own ended same told =
-        subst (EndsKept own i.size i.bytes dir tree old new) (sym told) (mounted_ends own (Some (Refused Memory)) tt (refl, inl same))
+        subst (EndsKept own i.size i.bytes dir tree old new) (sym told) (mounted_ends own (Some (Refused Memory)) tt (inr (refl, inl same)))
 
     -- it doesn't mount for a cause
     module _ (cause : MountFault) (format : IsOfFormat cause) (has : HasCause i cause) where
@@ -85,7 +86,7 @@ module _ (dir : List ℕ) (tree : Option HostTree) (old : Option (List Made)) (n
         (subst (λ (n : ℕ). EndsKept own n i.bytes dir tree old new ended) size_is ends)
 
     -- a folder is made of them
-    pub bytes_mounted : (ended fault : Option Fault) → ended ≡ fault → IsOther fault → EndsMaking i dir tree old new fault
+    pub bytes_mounted : (ended fault : Option Fault) → ended ≡ fault → IsOther fault → EndsMaking i (path_text []) dir tree old new fault
         → EndsKept own size bytes dir tree old new ended
     bytes_mounted ended fault told other ends =
         subst (EndsKept own size bytes dir tree old new) (sym told) (of_bytes fault (mounted_ends i is own fault other ends))

@@ -6,7 +6,6 @@ use Rattle.lfs_request.specs.declared.fault.Fault.TheVariants.{Refused, CannotWr
 use Rattle.lfs_request.specs.declared.manner.Manner.{Manner}
 use Rattle.lfs_request.specs.View.{start_of}
 use Rattle.lfs_request.specs.declared.outcome.Outcome.{Outcome}
-use Rattle.lfs_request.specs.Fault.{blames_output}
 use Rattle.lfs_step.specs.declared.step.Step.{Step}
 use Rattle.lfs_step.specs.Outcome.{Answers, SendsText, given}
 use Rattle.lfs_request.specs.Query.{Question}
@@ -19,8 +18,7 @@ use Rattle.lfs_exchange.specs.Handing.{HandedBytes, HandsImage, HandsJournal, Is
 use Rattle.lfs_serve.specs.StepKind.{kind_of}
 use Rattle.lfs_exchange.specs.Storing.{LeavesFiles, SparesFiles}
 use Rattle.lfs_host.specs.Files.{Files, IsTarget, ReadsFrom}
-use Rattle.lfs_host.specs.Scene.{HasClaimed, HasRefused, KeepsAll, KeepsScene, Scene, is_blamed}
-use Rattle.lfs_host.proofs.BlameLemmas.{blamed_has_refused}
+use Rattle.lfs_host.specs.Scene.{HasClaimed, HasRefused, KeepsAll, KeepsScene, Scene}
 use Rattle.lfs_report.specs.Stop.{stopped_by}
 use Rattle.lfs_report.specs.declared.stop.Stop.{Stop}
 use Rattle.lfs_serve.specs.Later.{later_read, refused_by}
@@ -152,12 +150,6 @@ pub question_kind : (files : Option Files) (by_device : Bool) (query : Query (Bo
 question_kind files by_device query asked question hands reads = asked_kind by_device asked question reads ∙ hands_kind files query asked hands
 
 -- ---- runs
-
--- output that has failed is blamed
-pub blames : (fault : Option Fault) (failed : Bool) (s : Scene) → failed ≡ blames_output fault → is_blamed failed s.has_refused ≡ true
-    → IsBlamed fault s
-blames (Some CannotWrite) failed s is blamed = blamed_has_refused failed s is blamed
-blames _ failed s is blamed = tt
 
 -- a step that ran on what it was handed, as it was read; nothing was printed behind it
 pub step_ran : (step : Step) (manner : Manner) (size : ℕ) (name : List ℕ) (old new : Scene) (h : HandedBytes) (image : List ℕ)

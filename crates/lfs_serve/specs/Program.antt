@@ -108,7 +108,7 @@ abbrev pub as_it_is : Bool → Manner
 as_it_is older = record { takes_older = older; view = whole_view }
 
 abbrev pub manner_of : Task → Bool → Manner
-manner_of (Extract dir view) older = record { takes_older = older; view = view }
+manner_of (Extract dir path view) older = record { takes_older = older; view = view }
 manner_of (Salvage dir view) older = record { takes_older = older; view = view }
 manner_of (Ask query view) older = record { takes_older = older; view = view }
 manner_of _ older = as_it_is older
@@ -118,7 +118,7 @@ abbrev pub HasKind : Task → Scene → StepKind → Type 0
 HasKind (Format count limits) s kind = kind ≡ Makes
 HasKind (Pack extent limits dir) s kind = (kind ≡ Makes) × ((rows : List PackRow) × PacksFolder s.tree dir.now rows)
 HasKind (Repack source extent said) s kind = kind ≡ Makes
-HasKind (Extract dir view) s kind = ⊥
+HasKind (Extract dir path view) s kind = ⊥
 HasKind (Salvage dir view) s kind = ⊥
 HasKind (Ask query view) s kind = kind ≡ kind_of_query query
 HasKind Forget s kind = kind ≡ Forgets
@@ -143,8 +143,8 @@ IsNotBegun task name old new why =
 
 -- how a task on an image's file ends: as a folder that is made; as the step that it becomes; or before that, with nothing changed
 abbrev pub EndsTask : Task → Bool → ℕ → List ℕ → Scene → Scene → Option Fault → Type 0
-EndsTask (Extract dir view) older size name old new fault =
-    EndsExtract (record { takes_older = older; view = view }) size name dir.now old new fault
+EndsTask (Extract dir path view) older size name old new fault =
+    EndsExtract (record { takes_older = older; view = view }) size name path.now dir.now old new fault
 EndsTask (Salvage dir view) older size name old new fault =
     EndsSalvage (record { takes_older = older; view = view }) size name dir.now old new fault
 EndsTask task older size name old new fault =
@@ -162,7 +162,7 @@ task_reads_input _ = false
 
 -- whether a task makes a folder
 abbrev pub makes_folder : Task → Bool
-makes_folder (Extract dir view) = true
+makes_folder (Extract dir path view) = true
 makes_folder (Salvage dir view) = true
 makes_folder _ = false
 

@@ -45,7 +45,7 @@ AreServed size name (s ∷ ss) old new = (mid : Files) × IsServedOn size name s
 
 -- where a task leads that was done: as the step that it becomes; a folder that is made leaves the history
 abbrev pub TaskGoes : ℕ → Task → Scene → History → History → Type 0
-TaskGoes size (Extract dir view) s old new = new ≡ old
+TaskGoes size (Extract dir path view) s old new = new ≡ old
 TaskGoes size (Salvage dir view) s old new = new ≡ old
 TaskGoes size task s old new = (step : Step) × BecomesStep task size s step × GoesOn size step old new
 

@@ -6,6 +6,7 @@ use Rattle.lfs_block.specs.declared.mount_fault.MountFault.{MountFault}
 use Rattle.lfs_command.specs.declared.refusal.Refusal.TheVariants as refusal
 use Rattle.lfs_extract.specs.declared.extract_fault.ExtractFault.TheVariants as extracting
 use Rattle.lfs_fs.specs.Cause.{HasCause, IsOfFormat}
+use Rattle.lfs_fs.specs.Path.{path_text}
 use Rattle.lfs_host.specs.Files.{ReadsFrom}
 use Rattle.lfs_host.specs.HostTree.{HostTree, IsKind}
 use Rattle.lfs_host.specs.NewFolder.{Made}
@@ -64,7 +65,7 @@ abbrev pub EndsSalvaged : Bool → ℕ → List ℕ → List ℕ → List ℕ �
 EndsSalvaged by_device size bytes image dir tree old new (Some (Image fault)) = IsNoImage fault size image × (new.made ≡ old)
 EndsSalvaged by_device size bytes image dir tree old new fault =
     IsDisk (image_of size image)
-    × ((IsOther fault × EndsMaking (image_of size image) dir tree old new fault)
+    × ((IsOther fault × EndsMaking (image_of size image) (path_text []) dir tree old new fault)
     ⊎ ((cause : MountFault) × IsOfFormat cause × HasCause (image_of size image) cause
     × ((d : Disk) × (e : Disk) × AreReadIn by_device size bytes image d e × EndsSaving d e cause dir tree old new fault)))
 

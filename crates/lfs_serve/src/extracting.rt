@@ -22,10 +22,11 @@ use lfs_extract::{ExtractFault, extract_rows};
 use lfs_fs::{Mounted, mount};
 use lfs_host::{Host, HostKind};
 use lfs_report::{Beside, Stop, stop_of_extracting, stop_of_image};
-use lfs_request::{Fault, Manner, Request, View};
+use lfs_request::{Fault, Manner, Place, Request, View};
+use lfs_step::names_of_directory;
 use std::alloc::Global;
 
-/// Makes a folder of the host out of an image's file, as the image is looked at. What commits of a later version stand in it is put into
+/// Makes a folder of the host out of what stands at a path in an image's file and below it, as the image is looked at. What commits of a later version stand in it is put into
 /// `beside`. Takes memory.
 pub(crate) fn extracted<H: Host>(
     alloc: Global,
@@ -33,9 +34,10 @@ pub(crate) fn extracted<H: Host>(
     request: &Request<'_>,
     beside: &mut Beside,
     view: View,
+    path: &[u8],
     dir: &str,
 ) -> Result<(), Stop>
-    ensures made { EndsExtract (record { takes_older = request.now.takes_older; view = view }) request.now.size request.now.image.now dir.now
+    ensures made { EndsExtract (record { takes_older = request.now.takes_older; view = view }) request.now.size request.now.image.now path.now dir.now
         (H.known host.old) (H.known host.new) (stopped_by result) }
     ensures kept { KeepsFiles (H.known host.old) (H.known host.new) }
 {
@@ -46,61 +48,77 @@ pub(crate) fn extracted<H: Host>(
     };
     pass_alone(manner, request.size, &handed.image, beside)?;
     let image = read_by(alloc, view, request.size, handed.image)?;
-    extract_bytes(alloc, host, request.size, beside, image, dir)
+    extract_bytes(alloc, host, request, beside, image, path, dir)
 }
 
 /// Makes a folder out of bytes that are an image. The text of what is told of its end is put into `beside`.
 fn extract_bytes<H: Host>(
     alloc: Global,
     host: &mut H,
-    size: u32,
+    request: &Request<'_>,
     beside: &mut Beside,
     bytes: Vec<u8>,
+    path: &[u8],
     dir: &str,
 ) -> Result<(), Stop>
-    ensures made { EndsBytes size bytes.items dir.now (H.known host.old).tree (H.known host.old).made (H.known host.new) (stopped_by result) }
+    ensures made { EndsBytes request.now.size bytes.items path.now dir.now (H.known host.old).tree (H.known host.old).made (H.known host.new) (stopped_by result) }
     ensures kept { KeepsFiles (H.known host.old) (H.known host.new) }
 {
+    let size = request.size;
     let image = match Image::new(bytes, size) {
         Ok(image) => image,
         Err((fault, bytes)) => return Err(stop_of_image(Fault::Image(fault), size, &bytes)),
     };
-    match extract_image(alloc, host, &image, dir) {
+    let mut place = None;
+    match extract_image(alloc, host, &image, path, &mut place, dir) {
         Ok(()) => Ok(()),
-        Err(fault) => Err(stop_of_extracting(alloc, fault, image, beside)),
+        Err(fault) => Err(stop_of_extracting(alloc, &request.task, fault, image, place, beside)),
     }
 }
 
-/// Makes a folder out of an image.
+/// Makes a folder out of an image. Where the path is refused the place is left.
 fn extract_image<H: Host>(
     alloc: Global,
     host: &mut H,
     image: &Image,
+    path: &[u8],
+    place: &mut Option<Place>,
     dir: &str,
 ) -> Result<(), Fault>
-    ensures made { EndsMaking image.now.disk dir.now (H.known host.old).tree (H.known host.old).made (H.known host.new) (result_err result) }
+    ensures made { EndsMaking image.now.disk path.now dir.now (H.known host.old).tree (H.known host.old).made (H.known host.new) (result_err result) }
     ensures kept { KeepsFiles (H.known host.old) (H.known host.new) }
 {
     let mounted = mount(alloc, image)?;
-    extract_mounted(alloc, host, image, &mounted, dir)
+    extract_mounted(alloc, host, image, &mounted, path, place, dir)
 }
 
-/// Makes a folder out of an image that mounts so. The caller owes that it does. Takes memory.
+/// Makes a folder out of what stands at a path and below it in an image that mounts so. The caller owes that it does. The path is judged
+/// first: it has to be that of a directory. Where it is refused the place is left. Takes memory.
 pub(crate) fn extract_mounted<H: Host>(
     alloc: Global,
     host: &mut H,
     image: &Image,
     mounted: &Mounted,
+    path: &[u8],
+    place: &mut Option<Place>,
     dir: &str,
 ) -> Result<(), Fault>
     requires { IsMountOf image.now.disk mounted.now }
-    ensures made { EndsMaking image.now.disk dir.now
+    ensures made { EndsMaking image.now.disk path.now dir.now
         (H.known host.old).tree (H.known host.old).made (H.known host.new) (result_err result) }
     ensures other { IsOther (result_err result) }
     ensures kept { KeepsFiles (H.known host.old) (H.known host.new) }
 {
-    must_be_missing(host, dir)?;
-    told(extract_rows(alloc, image, mounted, dir, host))
+    match names_of_directory(alloc, image, mounted, path) {
+        Ok(at) => {
+            must_be_missing(host, dir)?;
+            told(extract_rows(alloc, image, mounted, &at, dir, host))
+        }
+        Err(refusal) => {
+            *place = Place::of(alloc, mounted.outline(), path, None);
+            Err(Fault::Refused(refusal))
+        }
+    }
 }
 
 /// The end of making a folder, as it is told.

@@ -105,7 +105,7 @@ fn salvage_seen<H: Host>(
     ensures kept { KeepsFiles (H.known host.old) (H.known host.new) }
 {
     match mount(alloc, image) {
-        Ok(mounted) => Ok(extract_mounted(alloc, host, image, &mounted, dir)?),
+        Ok(mounted) => Ok(extract_mounted(alloc, host, image, &mounted, b"/", &mut None, dir)?),
         Err(MountFault::Memory) => Err(Stop::from(AllocError)),
         Err(cause) => salvage_image(alloc, host, beside, cause, seen, own, image, dir),
     }

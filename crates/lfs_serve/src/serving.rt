@@ -79,7 +79,9 @@ fn done<H: Host>(
             extent,
             limits,
         } => repacked(alloc, host, request, beside, source, *extent, *limits),
-        Task::Extract { dir, view } => extracted(alloc, host, request, beside, *view, *dir),
+        Task::Extract { dir, path, view } => {
+            extracted(alloc, host, request, beside, *view, *path, *dir)
+        }
         Task::Salvage { dir, view } => salvaged(alloc, host, request, beside, *view, *dir),
         Task::Ask { query, view } => queried(alloc, host, request, beside, query, *view),
         Task::Forget => forgotten(alloc, host, request, beside),

@@ -67,7 +67,7 @@ task_keeps fault (task.Ask query view) older size name old new asks (inl (Ask qu
     step_keeps fault (Ask question) (manner_of (task.Ask query view) older) size name old new (asks_of question) ends
 task_keeps fault (task.Ask query view) older size name old new asks (inl (_, becomes, ends)) = absurd becomes
 task_keeps fault (task.Ask query view) older size name old new asks (inr (keeps, why)) = keeps.0
-task_keeps fault (task.Extract dir view) older size name old new asks ends = ends.0.0
+task_keeps fault (task.Extract dir path view) older size name old new asks ends = ends.0.0
 task_keeps fault (task.Salvage dir view) older size name old new asks ends = ends.0.0
 task_keeps fault _ older size name old new only ends = absurd only
 
@@ -83,6 +83,6 @@ asking_keeps request old new status only is =
 -- and its caller owes nothing more
 pub asking_in_range : (t : Task) → OnlyAsks t → IsTaskInRange t
 asking_in_range (task.Ask query view) only = tt
-asking_in_range (task.Extract dir view) only = tt
+asking_in_range (task.Extract dir path view) only = tt
 asking_in_range (task.Salvage dir view) only = tt
 asking_in_range _ only = absurd only

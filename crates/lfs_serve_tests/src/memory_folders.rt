@@ -121,7 +121,7 @@ fn image_of_folder(alloc: Global, host: &mut MemoryHost) -> Option<Image> {
 /// What an image's folder is refused for where it is made as the folder `out`.
 fn refusal_of(alloc: Global, image: &Image, host: &mut MemoryHost) -> Option<Option<ExtractFault>> {
     match mount(alloc, image) {
-        Ok(mounted) => Some(extract_rows(alloc, image, &mounted, "out", host).err()),
+        Ok(mounted) => Some(extract_rows(alloc, image, &mounted, &[], "out", host).err()),
         Err(_) => None,
     }
 }

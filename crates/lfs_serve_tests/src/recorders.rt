@@ -139,7 +139,7 @@ fn makes(alloc: Global, image: &Image, host: &mut Recorder, is_made: bool) -> bo
     let Ok(mounted) = mount(alloc, image) else {
         return false;
     };
-    extract_rows(alloc, image, &mounted, "out", host).is_ok() == is_made
+    extract_rows(alloc, image, &mounted, &[], "out", host).is_ok() == is_made
         && are_made(&host.things, is_made)
 }
 

@@ -93,13 +93,6 @@ refused_as (Err f) ends P is each = each f (sym is)
 
 -- ---- the second image
 
--- a fault of mounting it
-pub other_refused : (d e : Disk) (m : MountedValue) (f : Fault) → IsMountOf d m
-    → (f ≡ fault.Refused refusal.Memory) ⊎ ((cause : MountFault) × (f ≡ fault.Other (other.Mount cause)) × HasCause e cause)
-    → RefusesDifference d e f
-other_refused d e m f first (inl memory) = subst (RefusesDifference d e) (sym memory) refl
-other_refused d e m f first (inr (cause, is, has)) = subst (RefusesDifference d e) (sym is) ((m, first), has)
-
 -- ---- nothing goes out
 
 pub same_kept : (o : Option (List ℕ)) → Keeps o o

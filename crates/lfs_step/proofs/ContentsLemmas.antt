@@ -98,7 +98,7 @@ unfolding IsOfVerdict
 of_standing t path = (of_walk t [] path, (of_test (is_none (t path)) NotFound tt, tt))
 
 -- the first check that refuses
-first_fails : (checks : Checks) (d : Disk) (text : List ℕ) (r : Refusal)
+pub first_fails : (checks : Checks) (d : Disk) (text : List ℕ) (r : Refusal)
     → ((t : Path → Option Node) (path : Path) → AllByRecursion MayBeOfVerdict (checks t path))
     → FailsCheck checks d text r → RefusesPath checks d text r
 first_fails checks d text r of fails =
@@ -146,7 +146,7 @@ module _ (shows : RowsShowTheTree) (d : Disk) (disk : IsDisk d) (m : MountedValu
   })
 
   -- the walk, or that nothing is at the path
-  walked : OutlinesAreJudgedAlike → (r : Refusal) → (path ≡ [] → ⊥) → first_refusal (entry_checks m.outline path) ≡ Some r
+  pub walked : OutlinesAreJudgedAlike → (r : Refusal) → (path ≡ [] → ⊥) → first_refusal (entry_checks m.outline path) ≡ Some r
       → first_refusal (there_checks is.volume path) ≡ Some r
   walked alike r below refused =
       there_alike alike is.volume path ∙ ap (λ (v : Volume). first_refusal (there_checks v path)) (sym is.outline)

@@ -1,4 +1,5 @@
 pub mod ContentsLemmas
+pub mod DirectoryLemmas
 pub mod BetweenLemmas
 pub mod TellingLemmas
 pub mod LogLemmas

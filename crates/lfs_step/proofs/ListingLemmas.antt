@@ -3,8 +3,6 @@ use Rattle.std.proofs.Common.{◌≡◌, ◌∙◌, Bool, Bor, List, None, Optio
 use Rattle.std.specs.Io.KnownBytes.{Appends}
 use Rattle.lfs_block.specs.Disk.{Disk}
 use Rattle.lfs_fs.specs.Mounted.{MountedValue, IsMountOf}
-use Rattle.lfs_command.specs.declared.refusal.Refusal.{Refusal}
-use Rattle.lfs_command.specs.declared.refusal.Refusal.TheVariants.{Memory as No_memory}
 use Rattle.lfs_fs.specs.Path.{Path}
 use Rattle.lfs_listing.specs.Below.{listing_at}
 use Rattle.lfs_block.specs.declared.mount_fault.MountFault.{MountFault}
@@ -14,11 +12,10 @@ use Rattle.lfs_listing.specs.declared.unsent.Unsent.{Unsent}
 use Rattle.lfs_listing.specs.declared.unsent.Unsent.TheVariants.{Memory, CannotWrite}
 use Rattle.lfs_request.specs.declared.query.Query.TheVariants.{Ls, Blocks}
 use Rattle.lfs_request.specs.declared.fault.Fault.{Fault}
-use Rattle.lfs_request.specs.declared.fault.Fault.TheVariants.{Refused}
 use Rattle.lfs_request.specs.Fault.{blames_output, fault_of_mount}
 use Rattle.lfs_step.proofs.ComparingLemmas.{same_kept}
-use Rattle.lfs_step.specs.Listed.{IsListing, IsThere, RefusesListing}
-use Rattle.lfs_step.specs.Query.{HasMount, RefusesAnswer, RefusesReport, SendsReport, blocks_text, fault_of_unsent}
+use Rattle.lfs_step.specs.Listed.{IsListing, IsThere}
+use Rattle.lfs_step.specs.Query.{RefusesReport, SendsReport, blocks_text, fault_of_unsent}
 
 -- the sink is blamed by the fault that is told
 pub blamed_alike : (u : Unsent) (f : Fault) → f ≡ fault_of_unsent u → blames_sink (Some u) ≡ blames_output (Some f)
@@ -59,15 +56,6 @@ pub listing_sent : (d : Disk) (m : MountedValue) → IsMountOf d m → (path : B
 listing_sent d m is path at there Memory old new (n, within, sends) =
     inr (listing_at at m.rows, listing_is d m is path at there, n, within, sends)
 listing_sent d m is path at there CannotWrite old new sends = (listing_at at m.rows, listing_is d m is path at there, sends)
-
--- a path that is refused: nothing goes out
-pub listing_unsent : (d : Disk) (m : MountedValue) → IsMountOf d m → (path : Bor (List ℕ)) (r : Refusal) → RefusesListing d path.now r
-    → RefusesReport (Ls path) d (Refused r)
-listing_unsent d m is path r refuses = path_refused d path r (m, is) refuses
-  where
-    path_refused : (d : Disk) (path : Bor (List ℕ)) (r : Refusal) → HasMount d → RefusesListing d path.now r → RefusesAnswer (Ls path) d r
-    path_refused d path No_memory has refuses = tt
-    path_refused d path r has refuses = (has, refuses)
 
 pub blocks_refused : (sums : Bool) (d : Disk) (m : MountedValue) → IsMountOf d m → (u : Unsent)
     → RefusesReport (Blocks sums) d (fault_of_unsent u)

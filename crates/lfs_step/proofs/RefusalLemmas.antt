@@ -1,25 +1,14 @@
 -- What refusals of contents and of packing say once the image mounts and the geometry is good.
-use Rattle.std.proofs.Common.{ℕ, List, Bor}
-use Rattle.lfs_block.specs.Disk.{Disk}
+use Rattle.std.proofs.Common.{ℕ, List}
 use Rattle.lfs_block.specs.Geometry.{IsGeometry}
 use Rattle.lfs_fs.specs.declared.limits.Limits.{Limits}
-use Rattle.lfs_fs.specs.Mounted.{MountedValue, IsMountOf}
 use Rattle.lfs_command.specs.declared.refusal.Refusal.{Refusal}
 use Rattle.lfs_command.specs.declared.refusal.Refusal.TheVariants.{Memory}
 use Rattle.lfs_pack.specs.declared.pack_row.PackRow.{PackRow}
 use Rattle.lfs_pack.specs.Packed.{AreRowsOf, Packed}
 use Rattle.lfs_pack.specs.Packing.{RefusesPack}
 use Rattle.lfs_request.specs.declared.fault.Fault.TheVariants.{Refused}
-use Rattle.lfs_request.specs.declared.query.Query.TheVariants.{Cat}
-use Rattle.lfs_step.specs.Contents.{RefusesContents}
 use Rattle.lfs_step.specs.Outcome.{RefusesPacking}
-use Rattle.lfs_step.specs.Query.{RefusesReport}
-
--- contents of an image that mounts
-pub contents_refused : (path : Bor (List ℕ)) (d : Disk) (m : MountedValue) → IsMountOf d m → (r : Refusal) → RefusesContents d path.now r
-    → RefusesReport (Cat path) d (Refused r)
-contents_refused path d m is Memory refuses = tt
-contents_refused path d m is r refuses = ((m, is), refuses)
 
 -- rows of an image whose geometry is good
 pub rows_refused : (size count : ℕ) (limits : Limits) (rows : List PackRow) → IsGeometry size count → (r : Refusal)

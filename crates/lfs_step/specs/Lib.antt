@@ -1,6 +1,7 @@
 pub mod Contents
 pub mod Sent
 pub mod Listed
+pub mod DirectoryThere
 pub mod Log
 pub mod Between
 pub mod Step

@@ -16,7 +16,7 @@ use lfs_block::Blocks;
 use lfs_command::{Refusal, names_of};
 use lfs_draft::entry_there;
 use lfs_file::send_blocks;
-use lfs_fs::{Mounted, OutlineBody, rows_show_the_tree};
+use lfs_fs::{Mounted, OutlineBody, outlines_are_sound, rows_show_the_tree};
 use lfs_law::outlines_are_judged_alike;
 use lfs_sink::{Sink, send};
 use std::alloc::Global;
@@ -64,6 +64,7 @@ pub fn send_file<B: Blocks, S: Sink>(
     ensures kept { S.kept out.new ≡ S.kept out.old }
 {
     rows_show_the_tree();
+    outlines_are_sound();
     outlines_are_judged_alike();
     let _within_limits = disk.size();
     let names = names_of(alloc, path)?;

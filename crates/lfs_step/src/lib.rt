@@ -24,4 +24,5 @@ pub use laws::{
 };
 pub use log::log_of;
 pub use running::run;
+pub use standing::names_of_directory;
 pub use step::Step;

@@ -3,12 +3,13 @@
 ghost use Rattle.std.specs.Prelude.{IfErr, IfOk};
 ghost use Rattle.lfs_fs.specs.Mounted.{IsMountOf};
 ghost use Rattle.lfs_listing.specs.Below.{names};
+ghost use Rattle.lfs_step.specs.DirectoryThere.{IsDirectoryThere, RefusesDirectory};
 ghost use Rattle.lfs_step.specs.Listed.{IsThere, RefusesListing};
 
 use lfs_block::Blocks;
 use lfs_command::{Refusal, names_of};
 use lfs_draft::entry_there;
-use lfs_fs::{Mounted, rows_show_the_tree};
+use lfs_fs::{Mounted, outlines_are_sound, rows_show_the_tree};
 use lfs_law::outlines_are_judged_alike;
 use std::alloc::Global;
 
@@ -27,6 +28,7 @@ pub(crate) fn names_there<'a, B: Blocks>(
 {
     rows_show_the_tree();
     outlines_are_judged_alike();
+    outlines_are_sound();
     let _within_limits = disk.size();
     let names = names_of(alloc, path)?;
     if names.is_empty() {
@@ -34,4 +36,31 @@ pub(crate) fn names_there<'a, B: Blocks>(
     }
     entry_there(mounted.outline(), &names)?;
     Ok(names)
+}
+
+/// The names of the path of a directory of a mounted image that a text spells: refused as any path is, else `NotADirectory` where a file
+/// stands at the path.
+pub fn names_of_directory<'a, B: Blocks>(
+    alloc: Global,
+    disk: &B,
+    mounted: &Mounted,
+    path: &'a [u8],
+) -> Result<Vec<&'a [u8]>, Refusal>
+    requires { IsMountOf (B.disk disk.now) mounted.now }
+    ensures there { IfOk result (λ at. IsDirectoryThere (B.disk disk.now) mounted.now path.now (names at.items)) }
+    ensures refused { IfErr result (λ refusal. RefusesDirectory (B.disk disk.now) path.now refusal) }
+{
+    rows_show_the_tree();
+    outlines_are_judged_alike();
+    outlines_are_sound();
+    let _within_limits = disk.size();
+    let at = names_of(alloc, path)?;
+    if at.is_empty() {
+        return Ok(at);
+    }
+    let entry = entry_there(mounted.outline(), &at)?;
+    if entry.target().is_none() {
+        return Err(Refusal::NotADirectory);
+    }
+    Ok(at)
 }

@@ -1,7 +1,7 @@
 -- Areas that begin at some pairs, and along the thread behind them.
 use Rattle.std.proofs.Common.{◌≡◌, ℕ, ◌+◌, ◌<◌, ◌≤◌, Bool, false, List, [], ◌∷◌, ◌++◌, length, take, get_or, refl, ap, sym, ◌∙◌, arith, subst}
 use Rattle.std.specs.Prelude.{All}
-use Rattle.std.proofs.lemmas.List.{append-nil, append_assoc, length-append, take_all, take_more, take-append-le, take_at}
+use Rattle.std.proofs.lemmas.List.{append-nil, append_assoc, length-append, take_more, take-append-le, take_at}
 use Rattle.std.proofs.lemmas.List.Concat.{flat_map-append}
 use Rattle.std.proofs.lemmas.List.Elements.{All-append, All-take, All-weaker, Contains-append_left, Contains-append_right}
 use Rattle.lfs_block.specs.Disk.{Disk}
@@ -64,16 +64,6 @@ along_more d before now after starts areas new next a h within is k =
       within = omega (arith, ap length k.added, length-append areas k.more);
       len = k.len ∙ h.len;
       grows = grows_then before now after h.grows k.grows;
-    }
-
-pub along_all : (d : Disk) (before now : List Bool) (starts : List Pair) (areas : List Area) (next : ℕ)
-    → IsAlong d before now starts areas next → length areas ≤ next → AreAlong d before now starts areas
-along_all d before now starts areas next h done =
-    let all : take next areas ≡ areas = take_all next areas done in
-    record {
-      begin = subst (λ (xs : List Area). BeginIn d before (starts ++ tails_behind xs) areas) all h.begin;
-      looked = h.looked;
-      closed = subst (λ (xs : List Area). All (λ p. is_open now p ≡ false) (starts ++ tails_behind xs)) all h.closed;
     }
 
 -- what all of two lists have, those of the first one have

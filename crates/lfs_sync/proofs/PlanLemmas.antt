@@ -5,7 +5,7 @@ use Rattle.std.proofs.lemmas.List.{map-append, take_more}
 use Rattle.lfs_block.specs.Disk.{Disk}
 use Rattle.lfs_fs.specs.Path.{Path, path_text}
 use Rattle.lfs_command.specs.Command.{Asked, Command, Rm, on_paths}
-use Rattle.lfs_sync.specs.Merging.{Adds, KeepsPlaces, PlansBoth, PlansHeld, PlansWanted, if_so}
+use Rattle.lfs_sync.specs.Merging.{Adds, PlansBoth, PlansHeld, PlansWanted, if_so}
 use Rattle.lfs_sync.specs.Planned.{in_texts, plan_asked}
 use Rattle.lfs_sync.specs.Shown.{Shown}
 use Rattle.lfs_listing.specs.Below.{names}
@@ -25,9 +25,6 @@ none_then rows old mid new commands first second =
 then_none : (rows : List SyncRow) (old mid new : List Planned) (commands : List Command) → Adds rows old mid commands → Adds rows mid new []
     → Adds rows old new commands
 then_none rows old mid new commands first second = second ∙ append-nil (plan_asked rows mid) ∙ first
-
-pub places_then : (old mid new : Merging) → KeepsPlaces old mid → KeepsPlaces mid new → KeepsPlaces old new
-places_then old mid new first second = record { held = second.held ∙ first.held; wanted = second.wanted ∙ first.wanted }
 
 -- a removal and a making are a change
 pub change_planned : (at : Path) (rows : List SyncRow) (old mid new : Merging) (r other : Shown) (stays is_there : Bool)

@@ -2,11 +2,9 @@
 use Rattle.std.proofs.Common.{◌≡◌, ◌∙◌, ℕ, suc, ◌+◌, Bool, true, false, not, cond, List, [], ◌∷◌, ◌++◌, length, sym, ap, subst, arith}
 use Rattle.std.proofs.Common.{inl, inr, append_assoc, append-nil, zero-add}
 use Rattle.std.specs.List.{AllZip}
-use Rattle.lfs_texts.specs.Flaws.{known_flaw}
-use Rattle.lfs_texts.specs.Lines.{IsLineFault, is_passed_over}
-use Rattle.lfs_texts.specs.Script.{IsFirstWordless, IsLineWords, Numbered, SplitsLine, asking_from, asking_lines, lines_in}
+use Rattle.lfs_texts.specs.Lines.{is_passed_over}
+use Rattle.lfs_texts.specs.Script.{IsLineWords, Numbered, SplitsLine, asking_from, asking_lines, lines_in}
 use Rattle.lfs_texts.specs.declared.line_words.LineWords.{LineWords}
-use Rattle.lfs_texts.specs.declared.script_fault.ScriptFault.{ScriptFault}
 
 -- so many lines of a text were read, with their words, and these are left
 pub record HasRead (text : List ℕ) (number : ℕ) (left : List (List ℕ)) (words : List LineWords) : Type 0 where
@@ -71,21 +69,6 @@ line_read text number left rest line old new read is (inr asks) = record {
   split = subst (AllZip IsLineWords (read.before ++ (number + 1, line) ∷ [])) (sym asks.1.2)
       (split_more read.before old (number + 1, line) asks.1.0 read.split asks.1.1);
   counted = counted_more text number left rest line is read.counted;
-}
-
--- a line that has no words is the first
-pub first_wordless : (text : List ℕ) (number : ℕ) (left rest : List (List ℕ)) (line : List ℕ) (words : List LineWords) (fault : ScriptFault)
-    → HasRead text number left words → left ≡ line ∷ rest → is_passed_over line ≡ false → IsLineFault line fault.fault
-    → fault.number ≡ number + 1 → fault.flaw ≡ known_flaw line fault.fault → IsFirstWordless text words fault
-first_wordless text number left rest line words fault read is asks refused at known = record {
-  line = line;
-  before = read.before;
-  behind = asking_from (number + 1 + 1) rest;
-  asked = asked_at text number left rest line words read is asks
-      ∙ ap (λ (n : ℕ). read.before ++ (n, line) ∷ asking_from (number + 1 + 1) rest) (sym at);
-  split = read.split;
-  refused = refused;
-  known = known;
 }
 
 -- all were read where none is left

@@ -1,6 +1,6 @@
 -- What texts say of sizes, and that they say it once.
 use Rattle.std.proofs.Common.{◌≡◌, ◌∙◌, ◌<◌, ◌≤◌, ◌*◌, ◌/◌, ◌%◌, ◌^◌, ℕ, List, Option, Some, None, sym, ap, subst, inl, inr}
-use Rattle.std.proofs.Common.{arith, codes, div-add-mod', drop, le-mul_of_pos_right, Bool, true, false, true≢false}
+use Rattle.std.proofs.Common.{arith, codes, div-add-mod', le-mul_of_pos_right, Bool, true, false, true≢false}
 use Rattle.std.proofs.lemmas.List.{append_cancel_right}
 use Rattle.std.proofs.lemmas.Slice.Eq.{bytes_eq-Decides}
 use Rattle.std.specs.Prelude.{◌≢◌, ◌⊎◌, Err, IsNone}
@@ -8,10 +8,6 @@ use Rattle.std.specs.Option.{SomeIff}
 use Rattle.std.specs.Str.{bytes_eq}
 use Rattle.std.specs.Str.Parse.{ParsesUnsigned, digits_value, without_leading_plus}
 use Rattle.lfs_texts.specs.Sizes.{HasUnit, IsHexadecimal, SaysNoBlock, SaysNoBytes, Writes}
-
--- the digits behind `0x`
-digits_agree : (text d e : List ℕ) → IsHexadecimal text d → IsHexadecimal text e → d ≡ e
-digits_agree text d e one other = ap (λ (t : List ℕ). drop 2 t) (sym one ∙ other)
 
 -- a text has its digits and its unit once
 units_agree : (text d e : List ℕ) (u v : ℕ) → HasUnit text d u → HasUnit text e v → (d ≡ e) × (u ≡ v)
@@ -30,12 +26,6 @@ unit_some text d u (inl a) = omega (arith, a.1)
 unit_some text d u (inr (inl a)) = omega (arith, a.2)
 unit_some text d u (inr (inr a)) = omega (arith, a.3)
 
-no_hexadecimal : (text d : List ℕ) → IsHexadecimal text d → ((n : ℕ) → Writes 16 d n → ¬ (n < 2 ^ 64)) → SaysNoBytes text
-no_hexadecimal text d is none bytes (inl s) small =
-    let same : s.0 ≡ d = digits_agree text s.0 d s.1 is in
-    none bytes (subst (λ (t : List ℕ). Writes 16 t bytes) same s.2) small
-no_hexadecimal text d is none bytes (inr s) small = s.0 d is
-
 no_decimal : (text d : List ℕ) (u : ℕ) → ((e : List ℕ) → ¬ IsHexadecimal text e) → HasUnit text d u
     → ((n : ℕ) → Writes 10 d n → ¬ (n * u < 2 ^ 64)) → SaysNoBytes text
 no_decimal text d u decimal has none bytes (inl s) small = decimal s.0 s.1
@@ -48,10 +38,6 @@ no_decimal text d u decimal has none bytes (inr s) small =
     none n (subst (λ (t : List ℕ). Writes 10 t n) same.0 s.1.4) (subst (λ (m : ℕ). m < 2 ^ 64) is small)
 
 -- ---- what is read of digits
-
-pub no_hexadecimal_said : {E : Type 0} (text d : List ℕ) (e : E) → IsHexadecimal text d → ParsesUnsigned 64 16 d (Err e) → SaysNoBytes text
-no_hexadecimal_said text d e is read =
-    no_hexadecimal text d is (λ n writes small. read (writes.0, subst (λ (m : ℕ). m < 2 ^ 64) writes.1 small))
 
 pub no_decimal_said : {E : Type 0} (text d : List ℕ) (u : ℕ) (e : E) → ((e : List ℕ) → ¬ IsHexadecimal text e) → HasUnit text d u
     → ParsesUnsigned 64 10 d (Err e) → SaysNoBytes text

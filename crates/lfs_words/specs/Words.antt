@@ -205,7 +205,8 @@ IsTask (Pack extent limits dir) name rows block other =
     (name ≡ codes "pack") × SaysExtent rows block extent × SaysLimits rows limits × HasText rows (codes "dir") dir.now
 IsTask (Repack source extent limits) name rows block other =
     (name ≡ codes "repack") × IsSource source rows other × SaysExtentIfSaid rows block extent × SaysLimitsIfSaid rows limits
-IsTask (Extract dir view) name rows block other = (name ≡ codes "extract") × HasText rows (codes "dir") dir.now × IsView view rows
+IsTask (Extract dir path view) name rows block other =
+    (name ≡ codes "extract") × HasText rows (codes "dir") dir.now × HasPathOrRoot rows path.now × IsView view rows
 IsTask (Salvage dir view) name rows block other = (name ≡ codes "salvage") × HasText rows (codes "dir") dir.now × IsView view rows
 IsTask (Ask query view) name rows block other = IsQuery query name rows other × IsView view rows
 IsTask task.Forget name rows block other = name ≡ codes "forget"

@@ -241,6 +241,7 @@ fn viewing_task_of<'a>(
     match name {
         "extract" => Ok(Task::Extract {
             dir: text(options, "dir")?,
+            path: path_or_root(options),
             view,
         }),
         "salvage" => Ok(Task::Salvage {

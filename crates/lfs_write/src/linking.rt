@@ -30,8 +30,8 @@ fn push_links<'a>(
 ) -> Result<(), AllocError>
     ensures { OnOk result (links.new.items ≡ links.old.items ++ links_of directory.now.first directory.now.more tail) }
 {
-    let mut part = &directory.first;
-    'each: for next in &directory.more {
+    let mut part = &directory.parts.first;
+    'each: for next in &directory.parts.more {
         let to_next = hard_to(next);
         links.push(OutlineLink {
             part,
@@ -59,7 +59,7 @@ pub fn outline_links<'a>(
     };
     let mut directory = first;
     'each: for next in more {
-        let to_next = soft_to(&next.first);
+        let to_next = soft_to(&next.parts.first);
         push_links(&mut all, directory, to_next)?;
         directory = next;
     }

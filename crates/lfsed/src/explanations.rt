@@ -173,7 +173,7 @@ const EXPLANATIONS: [Explanation; 49] = [
     Explanation {
         number: 32,
         name: "NotADirectory",
-        text: "A file stands on the way, where the path wants a directory.",
+        text: "A file stands at the path, or on the way, where a directory is wanted.",
     },
     Explanation {
         number: 33,

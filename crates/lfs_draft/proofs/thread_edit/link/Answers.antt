@@ -11,7 +11,7 @@ returns-in_ok-link_in-clause-linked c =
     at_position (begins_at c.args.pair) (link_in c.args.entry) c.args.directories.now.items c.in-Some.at c.index_mut.result.now
     c.link_in.new.directory
     (ap (position (begins_at c.args.pair)) (sym c.deref.ensures.value) ∙ sym c.directory_of.ensures ∙ c.in-Some.is)
-    c.requires
+    c.requires.one
     (c.in_ok-link_in.ensures.linked ∙ ap (link_in c.args.entry) c.index_mut.ensures.value)
 
 pub returns-in_default-clause-linked : goal.returns-in_default-clause-linked

@@ -1,40 +1,56 @@
--- What no check refuses is carried out, and the table of used blocks follows.
-use Rattle.std.proofs.Common.{◌≡◌, ℕ, ap, sym, subst, ◌∙◌}
+-- What no check refuses is edited and cut, with a table that is long enough.
+use Rattle.std.proofs.Common.{◌≡◌, ◌⊎◌, ℕ, Some, ap, sym, subst, ◌∙◌}
 use Rattle.std.proofs.lemmas.Result.{err_from_is_err_and}
 use Rattle.lfs_fs.specs.Sound.{IsSound}
 use Rattle.lfs_fs.specs.Table.{IsTableOf}
-use Rattle.lfs_fs.specs.Used.{AddsBlocks, AreMarked, CanBeMarked}
 use Rattle.lfs_fs.specs.Uses.{times}
 use Rattle.lfs_fs.specs.Volume.{Volume}
 use Rattle.lfs_draft.specs.Editable.{IsEditable}
-use Rattle.lfs_command.specs.Freed.{freed_uses}
-use Rattle.lfs_command.specs.Growth.{count_after, grown}
 use Rattle.lfs_command.specs.AskedFor.{named_command}
+use Rattle.lfs_command.specs.declared.refusal.Refusal.TheVariants.{Memory}
+use Rattle.lfs_command.specs.Clean.{IsClean}
+use Rattle.lfs_command.specs.Freed.{freed_uses}
+use Rattle.lfs_command.specs.Supplies.{Supplies}
+use Rattle.lfs_command.specs.Verdict.{verdict}
+use Rattle.lfs_command.specs.Growth.{count_after, grown}
+use Rattle.lfs_law.specs.EditedOutline.{edited_outline}
 use Rattle.lfs_law.specs.Lengthened.{with_count}
+use Rattle.lfs_cut.specs.Front.{IsCleanFrom}
 use Rattle.lfs_edit.specs.Carried.{IsJudged}
 use Rattle.lfs_edit.proofs.JudgedLemmas.{editable, long_sound}
-use Rattle.lfs_edit.proofs.TableLemmas.{table_behind}
 use Rattle.lfs_edit.proofs.carrying.carry_judged.Goals as goal
+
+pub count_in_front-front-requires : goal.count_in_front-front-requires
+count_in_front-front-requires c =
+    editable c.outlines_are_sound.ensures c.names_are_ordered.ensures c.requires.judged.0 (named_command c.args.command.now)
+    c.args.outline.now c.requires.judged.1
 
 pub lengthen-requires-clause-sound : goal.lengthen-requires-clause-sound
 lengthen-requires-clause-sound c =
-    let d = c.args.image.now.disk in
     let command = named_command c.args.command.now in
     let o = c.args.outline.now in
     let counted = c.count_after-count.ensures ∙ ap (λ (v : Volume). count_after command v.count) c.outline.view_is in
     subst (λ (n : ℕ). IsSound (with_count n o)) (sym counted)
-    (long_sound c.counts_grow.ensures c.outlines_are_sound.ensures c.carrying_laws.ensures c.names_are_ordered.ensures d
-    c.size-size.ensures.disk command o c.requires.judged)
+    (long_sound c.counts_grow.ensures c.outlines_are_sound.ensures c.requires.judged.0 command o c.requires.judged.1)
 
 pub freed_blocks-requires : goal.freed_blocks-requires
 freed_blocks-requires c =
     subst (λ (o : Volume). IsEditable o (named_command c.args.command.now)) (sym c.in_ok-lengthen.ensures.same)
-    (editable c.outlines_are_sound.ensures c.carrying_laws.ensures c.names_are_ordered.ensures c.args.image.now.disk
-    (named_command c.args.command.now) c.args.outline.now c.requires.judged)
+    (editable c.outlines_are_sound.ensures c.names_are_ordered.ensures c.requires.judged.0
+    (named_command c.args.command.now) c.args.outline.now c.requires.judged.1)
 
 pub carry_over-requires-clause-judged : goal.carry_over-requires-clause-judged
-carry_over-requires-clause-judged c =
-    subst (IsJudged c.args.image.now.disk (named_command c.args.command.now)) (sym c.in_ok-lengthen.ensures.same) c.requires.judged
+carry_over-requires-clause-judged c = (
+  c.requires.judged.0,
+  subst (IsJudged c.requires.judged.0 (named_command c.args.command.now)) (sym c.in_ok-lengthen.ensures.same)
+      c.requires.judged.1,
+)
+
+pub carry_over-requires-clause-front : goal.carry_over-requires-clause-front
+carry_over-requires-clause-front c =
+    subst (λ (o : Volume). (s : Supplies) → IsClean o
+    → IsCleanFrom c.count_in_front-front.result (edited_outline o (named_command c.args.command.now) s).directories)
+    (sym c.in_ok-lengthen.ensures.same) c.count_in_front-front.ensures
 
 pub carry_over-requires-clause-table : goal.carry_over-requires-clause-table
 carry_over-requires-clause-table c =
@@ -44,60 +60,26 @@ carry_over-requires-clause-table c =
     subst (λ (x : Volume). IsTableOf (grown command x) c.lengthen.new.used) (sym c.in_ok-lengthen.ensures.same)
     (subst (λ (n : ℕ). IsTableOf (with_count n o) c.lengthen.new.used) counted c.in_ok-lengthen.ensures.table)
 
-pub take-requires : goal.take-requires
-take-requires c =
-    let d = c.args.image.now.disk in
+pub returns-in_err-blocks-clause-refused : goal.returns-in_err-blocks-clause-refused
+returns-in_err-blocks-clause-refused c =
     let command = named_command c.args.command.now in
-    let o = c.args.outline.now in
-    let used = c.lengthen.new.used in
-    let done = c.in_ok-patch.field-0 in
-    let gone = c.in_ok-gone.gone.items in
-    let counted = c.count_after-count.ensures ∙ ap (λ (v : Volume). count_after command v.count) c.outline.view_is in
-    let table = subst (λ (n : ℕ). IsTableOf (with_count n o) used) counted c.in_ok-lengthen.ensures.table in
-    let freed = subst (λ (x : Volume). (b : ℕ) → times b gone ≡ freed_uses x command b) c.in_ok-lengthen.ensures.same c.in_ok-gone.ensures in
-    let leads = table_behind c.tables_follow.ensures c.carrying_laws.ensures.judged c.images_mount_to_one_tree.ensures.volume d command o
-    c.carry_over.new.outline done.patch used done.blocks.items gone c.requires.judged table freed c.in_ok-patch.ensures.taken
-    c.in_ok-patch.ensures.finished in
-    subst (CanBeMarked used) (sym c.deref.ensures.value) leads.free
+    let p = err_from_is_err_and c.from_residual-in_err-blocks.result c.from_residual-in_err-blocks.ensures.1 in
+    rw (p.1, p.2) (subst (λ (o : Volume). (c.in_err-blocks.field-0.0 ≡ Memory)
+    ⊎ ((v : Volume) → IsJudged v command o → verdict v command ≡ Some c.in_err-blocks.field-0.0)) c.in_ok-lengthen.ensures.same
+    c.in_err-blocks.ensures.refused)
 
-pub give_back-requires : goal.give_back-requires
-give_back-requires c =
-    let d = c.args.image.now.disk in
-    let command = named_command c.args.command.now in
-    let o = c.args.outline.now in
-    let used = c.lengthen.new.used in
-    let done = c.in_ok-patch.field-0 in
-    let gone = c.in_ok-gone.gone.items in
-    let counted = c.count_after-count.ensures ∙ ap (λ (v : Volume). count_after command v.count) c.outline.view_is in
-    let table = subst (λ (n : ℕ). IsTableOf (with_count n o) used) counted c.in_ok-lengthen.ensures.table in
-    let freed = subst (λ (x : Volume). (b : ℕ) → times b gone ≡ freed_uses x command b) c.in_ok-lengthen.ensures.same c.in_ok-gone.ensures in
-    let leads = table_behind c.tables_follow.ensures c.carrying_laws.ensures.judged c.images_mount_to_one_tree.ensures.volume d command o
-    c.carry_over.new.outline done.patch used done.blocks.items gone c.requires.judged table freed c.in_ok-patch.ensures.taken
-    c.in_ok-patch.ensures.finished in
-    let more = c.take.new.self in
-    let adds = subst (AddsBlocks used more) c.deref.ensures.value c.take.ensures in
-    subst (AreMarked more) (sym c.deref-2.ensures.value) (leads.marked more adds)
+pub returns-clause-cut : goal.returns-clause-cut
+returns-clause-cut c v judged =
+    c.in_ok-blocks.ensures.cut v (subst (IsJudged v (named_command c.args.command.now)) (sym c.in_ok-lengthen.ensures.same) judged)
 
-pub returns-in_err-patch-clause-refused : goal.returns-in_err-patch-clause-refused
-returns-in_err-patch-clause-refused c =
-    let p = err_from_is_err_and c.from_residual-in_err-patch.result c.from_residual-in_err-patch.ensures.1 in
-    rw (p.1, p.2) c.in_err-patch.ensures.refused
+pub returns-clause-gone : goal.returns-clause-gone
+returns-clause-gone c =
+    subst (λ (o : Volume). (b : ℕ) → times b c.in_ok-gone.gone.items ≡ freed_uses o (named_command c.args.command.now) b)
+    c.in_ok-lengthen.ensures.same c.in_ok-gone.ensures
 
 pub returns-clause-table : goal.returns-clause-table
 returns-clause-table c =
-    let d = c.args.image.now.disk in
     let command = named_command c.args.command.now in
     let o = c.args.outline.now in
-    let used = c.lengthen.new.used in
-    let done = c.in_ok-patch.field-0 in
-    let gone = c.in_ok-gone.gone.items in
     let counted = c.count_after-count.ensures ∙ ap (λ (v : Volume). count_after command v.count) c.outline.view_is in
-    let table = subst (λ (n : ℕ). IsTableOf (with_count n o) used) counted c.in_ok-lengthen.ensures.table in
-    let freed = subst (λ (x : Volume). (b : ℕ) → times b gone ≡ freed_uses x command b) c.in_ok-lengthen.ensures.same c.in_ok-gone.ensures in
-    let leads = table_behind c.tables_follow.ensures c.carrying_laws.ensures.judged c.images_mount_to_one_tree.ensures.volume d command o
-    c.carry_over.new.outline done.patch used done.blocks.items gone c.requires.judged table freed c.in_ok-patch.ensures.taken
-    c.in_ok-patch.ensures.finished in
-    let more = c.take.new.self in
-    let last = c.give_back.new.self in
-    leads.table more last (subst (AddsBlocks used more) c.deref.ensures.value c.take.ensures)
-    (subst (AddsBlocks last more) c.deref-2.ensures.value c.give_back.ensures)
+    subst (λ (n : ℕ). IsTableOf (with_count n o) c.lengthen.new.used) counted c.in_ok-lengthen.ensures.table

@@ -2,7 +2,11 @@
 use Rattle.std.proofs.lemmas.Result.{IfOk-weaker, IfErr-weaker, err_from_is_err_and}
 use Rattle.lfs_command.specs.AskedFor.{asked_for, named_command}
 use Rattle.lfs_edit.proofs.JudgedLemmas.{refused_on}
+use Rattle.lfs_edit.proofs.TableLemmas.{outline_sound}
 use Rattle.lfs_edit.proofs.carrying_out.carry_out.Goals as goal
+
+pub judge-requires : goal.judge-requires
+judge-requires c = (outline_sound c.outlines_are_sound.ensures c.args.image.now.disk c.args.outline.now c.requires.outline).order
 
 pub returns-in_err-judge-clause-refused : goal.returns-in_err-judge-clause-refused
 returns-in_err-judge-clause-refused c =

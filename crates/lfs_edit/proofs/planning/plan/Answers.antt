@@ -4,13 +4,19 @@ use Rattle.std.proofs.lemmas.Result.{IfOk-weaker, IfErr-weaker, err_from_is_err_
 use Rattle.lfs_block.specs.Disk.{Disk}
 use Rattle.lfs_fs.specs.Mounted.{IsMountOf, IsOutlineOf, MountedValue}
 use Rattle.lfs_command.specs.AskedFor.{asked_for, named_command}
-use Rattle.lfs_edit.specs.Carried.{IsJudged}
+use Rattle.lfs_edit.specs.Carried.{IsHeldJudged}
 use Rattle.lfs_edit.proofs.JudgedLemmas.{may_be_refused, refused_on}
 use Rattle.lfs_edit.proofs.TableLemmas.{outline_sound}
 use Rattle.lfs_edit.proofs.planning.plan.Goals as goal
 
 outline_of_mount : (d : Disk) (m : MountedValue) → IsMountOf d m → IsOutlineOf d m.outline
 outline_of_mount d m is = record { volume = is.volume; holds = is.holds; sound = is.sound; outline = is.outline }
+
+pub judge-requires : goal.judge-requires
+judge-requires c =
+    (outline_sound c.outlines_are_sound.ensures c.args.image.now.disk c.outline.result.now
+    (subst (IsOutlineOf c.args.image.now.disk) (sym c.outline.ensures)
+    (outline_of_mount c.args.image.now.disk c.args.mounted.now c.requires.mounted))).order
 
 pub returns-in_err-judge-clause-refused : goal.returns-in_err-judge-clause-refused
 returns-in_err-judge-clause-refused c =
@@ -33,11 +39,11 @@ pub used_blocks-requires : goal.used_blocks-requires
 used_blocks-requires c =
     outline_sound c.outlines_are_sound.ensures c.args.image.now.disk c.in_ok-outline.outline c.in_ok-outline.ensures.read
 
-pub carry_judged-requires-clause-judged : goal.carry_judged-requires-clause-judged
-carry_judged-requires-clause-judged c =
+pub patch_judged-requires-clause-judged : goal.patch_judged-requires-clause-judged
+patch_judged-requires-clause-judged c =
     let same = c.in_ok-outline.ensures.only c.args.mounted.now.outline (outline_of_mount c.args.image.now.disk
     c.args.mounted.now c.requires.mounted) in
-    subst (IsJudged c.args.image.now.disk (named_command c.in_ok-command.command)) (c.outline.ensures ∙ sym same) (record {
+    subst (IsHeldJudged c.args.image.now.disk (named_command c.in_ok-command.command)) (c.outline.ensures ∙ sym same) (record {
       outline = subst (IsOutlineOf c.args.image.now.disk) (sym c.outline.ensures)
           (outline_of_mount c.args.image.now.disk c.args.mounted.now c.requires.mounted);
       names = c.in_ok-command.ensures.spelled.0;
@@ -46,10 +52,10 @@ carry_judged-requires-clause-judged c =
 
 pub returns-clause-planned : goal.returns-clause-planned
 returns-clause-planned c =
-    IfOk-weaker c.carry_judged.result _ _ (λ patch finished. finished.plans (asked_for c.args.command.now) c.in_ok-command.ensures.spelled)
-    c.carry_judged.ensures.finished
+    IfOk-weaker c.patch_judged.result _ _ (λ patch finished. finished.plans (asked_for c.args.command.now) c.in_ok-command.ensures.spelled)
+    c.patch_judged.ensures.finished
 
 pub returns-clause-refused : goal.returns-clause-refused
 returns-clause-refused c =
-    IfErr-weaker c.carry_judged.result _ _ (λ r refused. may_be_refused c.args.image.now.disk (named_command c.in_ok-command.command) r refused
-    (asked_for c.args.command.now) c.in_ok-command.ensures.spelled) c.carry_judged.ensures.refused
+    IfErr-weaker c.patch_judged.result _ _ (λ r refused. may_be_refused c.args.image.now.disk (named_command c.in_ok-command.command) r refused
+    (asked_for c.args.command.now) c.in_ok-command.ensures.spelled) c.patch_judged.ensures.refused

@@ -1,11 +1,13 @@
 -- The rows of a mounted image can be made where their names are texts.
-use Rattle.std.proofs.Common.{◌≡◌, ◌∙◌, Some, sym, subst, All}
+use Rattle.std.proofs.Common.{◌∙◌, List, sym, subst, All}
 use Rattle.lfs_block.specs.Disk.{Disk}
+use Rattle.lfs_fs.specs.Path.{Path}
 use Rattle.lfs_fs.specs.Row.{Row}
 use Rattle.lfs_fs.specs.RowShown.{HasBlocks}
 use Rattle.lfs_fs.specs.Sound.{IsSound}
-use Rattle.lfs_fs.specs.Tree.{entry_at}
-use Rattle.lfs_extract.specs.Extracted.{HaveTexts, StayBelow}
+use Rattle.lfs_listing.specs.Below.{names}
+use Rattle.lfs_extract.specs.Extracted.{HaveTexts}
+use Rattle.lfs_extract.specs.RowsBelow.{rows_below}
 use Rattle.lfs_extract.proofs.NameLemmas.{stay_below}
 use Rattle.lfs_extract.proofs.MakingLemmas.{judges, rows_have_blocks}
 use Rattle.lfs_extract.proofs.TreeLemmas.{of_tree}
@@ -18,26 +20,28 @@ make_rows-requires-clause-blocks g c =
     (rows_have_blocks c.rows_show_the_tree.ensures d c.size-within_limits.ensures.disk c.args.mounted.now c.requires.mounted)
 
 pub make_rows-requires-clause-texts : goal.make_rows-requires-clause-texts
-make_rows-requires-clause-texts g c = subst HaveTexts (c.rows.ensures ∙ sym c.rows-2.ensures) c.if-not-have_host_texts.ensures
+make_rows-requires-clause-texts g c =
+    subst (λ (rows : List Row). HaveTexts (rows_below (names c.args.at.now) rows)) (c.rows.ensures ∙ sym c.rows-2.ensures)
+    c.if-not-have_host_texts.ensures
 
 pub returns-clause-names : goal.returns-clause-names
 returns-clause-names g c =
     let is = c.requires.mounted in
+    let at : Path = names c.args.at.now in
     let sound : IsSound c.args.mounted.now.outline = subst IsSound (sym is.outline) (c.outlines_are_sound.ensures is.volume is.sound) in
-    let right = subst (All (λ (r : Row). entry_at c.args.mounted.now.outline r.path ≡ Some r.entry)) (sym c.rows-2.ensures) is.rows.right in
-    let texts = subst HaveTexts (c.rows.ensures ∙ sym c.rows-2.ensures) c.if-not-have_host_texts.ensures in
-    let stay = subst StayBelow c.rows-2.ensures (stay_below c.args.mounted.now.outline sound c.rows-2.result right texts) in
-    judges c.make_rows.result _ _ _ c.args.mounted.now.rows c.make_rows.ensures.made stay
+    let texts = subst (λ (rows : List Row). HaveTexts (rows_below at rows)) c.rows.ensures c.if-not-have_host_texts.ensures in
+    judges c.make_rows.result _ _ _ (rows_below at c.args.mounted.now.rows) c.make_rows.ensures.made
+    (stay_below c.args.mounted.now.outline sound at c.args.mounted.now.rows is.rows.right texts)
 
 pub returns-then-not-have_host_texts-clause-tree : goal.returns-then-not-have_host_texts-clause-tree
 returns-then-not-have_host_texts-clause-tree g c =
     of_tree c.rows_show_the_tree.ensures (g.B.Blocks.disk c.args.disk.now) c.size-within_limits.ensures.disk c.args.mounted.now
-    c.requires.mounted c.args.dir.now
+    c.requires.mounted (names c.args.at.now) c.args.dir.now
 
 pub returns-clause-tree : goal.returns-clause-tree
 returns-clause-tree g c =
     of_tree c.rows_show_the_tree.ensures (g.B.Blocks.disk c.args.disk.now) c.size-within_limits.ensures.disk c.args.mounted.now
-    c.requires.mounted c.args.dir.now
+    c.requires.mounted (names c.args.at.now) c.args.dir.now
 
 pub returns-clause-blamed : goal.returns-clause-blamed
 returns-clause-blamed g c = c.make_rows.ensures.blamed

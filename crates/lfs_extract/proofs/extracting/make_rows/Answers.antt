@@ -1,38 +1,78 @@
--- One row more is made.
-use Rattle.std.proofs.Common.{rules, ◌≡◌, ◌∙◌, [], ◌∷◌, Bor, List, ℕ, Option, ap, sym, subst, map, string_bytes}
+-- One row more is made, or is passed over.
+use Rattle.std.proofs.Common.{rules, ◌≡◌, ◌≢◌, ◌-◌, ◌∙◌, [], ◌∷◌, Bor, List, ℕ, None, Option, Some, true, ap, length, refl, sym, subst, map, string_bytes}
+use Rattle.std.specs.Prelude.{is_some}
+use Rattle.std.specs.Str.{IsUtf8}
 use Rattle.lfs_block.specs.Disk.{Disk}
+use Rattle.lfs_command.specs.PathMap.{below}
 use Rattle.lfs_meta.specs.Name.{Name}
 use Rattle.lfs_fs.specs.Path.{Path}
 use Rattle.lfs_fs.specs.Row.{Row}
 use Rattle.lfs_fs.specs.RowShown.{shown_node}
 use Rattle.lfs_fs.specs.Listed.{Listed, path_after, rows_after, rows_listed}
+use Rattle.lfs_listing.specs.Below.{names}
 use Rattle.lfs_extract.specs.PathBelow.{host_name}
 use Rattle.lfs_host.specs.NewFolder.{Made, Makes}
 use Rattle.lfs_extract.specs.Extracted.{made_as}
-use Rattle.lfs_extract.proofs.MakingLemmas.{AreLeft, all_left, has_blocks, has_text, left_behind, named_at, one_more}
+use Rattle.lfs_extract.specs.RowsBelow.{IsFront}
+use Rattle.lfs_extract.proofs.FrontLemmas.{left_after}
+use Rattle.lfs_extract.proofs.MakingLemmas.{AreLeft, all_left, has_blocks, has_texts, last_text, named_at, none_left, not_below, one_more, passed, root_left, some_left}
 use Rattle.lfs_extract.proofs.extracting.make_rows.Goals as goal
 
 pub loop-row-init : goal.loop-row-init
 loop-row-init g c =
     let old : Option (List Made) = (g.F.Known.known c.args.folder.now).made in
     let d : Disk = g.B.Blocks.disk c.args.disk.now in
+    let at : Path = names c.args.at.now in
     let rows : List Row = rows_listed c.args.rows in
     let same : c.into_iter-row-iterator.result ≡ c.args.rows = search rules in
-    let root : map (λ (n : Bor Name). n.now) c.new-path.result.items ≡ [] = ap (map (λ (n : Bor Name). n.now)) c.new-path.ensures.items in
-    let left : AreLeft old old d c.args.dir.now (rows_after [] c.into_iter-row-iterator.result) rows =
-    subst (λ (xs : List Listed). AreLeft old old d c.args.dir.now (rows_after [] xs) rows) (sym same)
-    (all_left old d c.args.dir.now rows c.requires.blocks c.requires.texts) in
-    record {
-      left = subst (λ (p : Path). AreLeft old old d c.args.dir.now (rows_after p c.into_iter-row-iterator.result) rows) (sym root) left;
-      kept = search rules;
-    }
+    let none : map (λ (n : Bor Name). n.now) c.new-rest.result.items ≡ [] = ap (map (λ (n : Bor Name). n.now)) c.new-rest.ensures.items in (
+      [],
+      record {
+        front = c.new-front.ensures at;
+        rest = root_left at (map (λ (n : Bor Name). n.now) c.new-rest.result.items) none;
+        left = subst (λ (xs : List Listed). AreLeft old old d at c.args.dir.now (rows_after [] xs) rows) (sym same)
+            (all_left old d at c.args.dir.now rows c.requires.blocks c.requires.texts);
+        kept = search rules;
+      },
+    )
 
-pub follow_row-requires : goal.follow_row-requires
-follow_row-requires g c = (has_text _ _ _ _ _ _ c.next.new.self c.in-Some.row _ c.loop-row.invariant.left c.in-Some.ensures.steps).text
+pub loop-row-preserved-then-not-is_below : goal.loop-row-preserved-then-not-is_below
+loop-row-preserved-then-not-is_below g c =
+    let at : Path = names c.args.at.now in
+    let q : Path = c.loop-row.invariant.0 in
+    let x : Listed = c.in-Some.row in
+    let p : Path = path_after q x.depth x.entry.name in
+    let front : IsFront at p c.behind-front.result = c.behind-front.ensures q c.loop-row.invariant.1.front in
+    let none : below at p ≡ None = not_below at p (c.if-not-is_below.ensures p front) in (
+      p,
+      record {
+        front = front;
+        rest = none_left at p (map (λ (n : Bor Name). n.now) c.loop-row.rest.items) none;
+        left = passed _ _ _ at _ q c.loop-row.row-iterator c.next.new.self x _ c.loop-row.invariant.1.left c.in-Some.ensures.steps none;
+        kept = c.loop-row.invariant.1.kept;
+      },
+    )
+
+pub follow_rest-requires : goal.follow_rest-requires
+follow_rest-requires g c =
+    let at : Path = names c.args.at.now in
+    let q : Path = c.loop-row.invariant.0 in
+    let x : Listed = c.in-Some.row in
+    let p : Path = path_after q x.depth x.entry.name in
+    let left : Path = map (λ (n : Bor Name). n.now) c.loop-row.rest.items in
+    let front : IsFront at p c.behind-front.result = c.behind-front.ensures q c.loop-row.invariant.1.front in
+    let there : is_some (below at p) ≡ true = sym (c.if-not-is_below.ensures p front) in
+    let inside : below at p ≡ Some (path_after left (length p - length at) x.entry.name) =
+    left_after at q left x.depth x.entry.name c.loop-row.invariant.1.rest there in
+    let texts = has_texts _ _ _ at _ q c.loop-row.row-iterator c.next.new.self x _ c.loop-row.invariant.1.left c.in-Some.ensures.steps
+    (path_after left (length p - length at) x.entry.name) inside in
+    subst (λ (y : Listed). c.more.result ≢ 0 → IsUtf8 y.entry.name) (sym c.row.view_is)
+    (last_text left (length p - length at) c.more.result x.entry.name (c.more.ensures p front) texts)
 
 pub make_row-requires : goal.make_row-requires
 make_row-requires g c = record {
-  blocks = has_blocks _ _ _ _ _ _ c.next.new.self c.in-Some.row _ c.loop-row.invariant.left c.in-Some.ensures.steps;
+  blocks = has_blocks _ _ _ (names c.args.at.now) _ c.loop-row.invariant.0 c.loop-row.row-iterator c.next.new.self c.in-Some.row _
+      c.loop-row.invariant.1.left c.in-Some.ensures.steps;
 }
 
 pub loop-row-preserved : goal.loop-row-preserved
@@ -42,20 +82,33 @@ loop-row-preserved g c =
     let new : Option (List Made) = (g.F.Known.known c.make_row.new.folder).made in
     let d : Disk = g.B.Blocks.disk c.args.disk.now in
     let dir : List ℕ = c.args.dir.now in
-    let q : Path = map (λ (n : Bor Name). n.now) c.loop-row.path.items in
+    let at : Path = names c.args.at.now in
+    let q : Path = c.loop-row.invariant.0 in
     let x : Listed = c.in-Some.row in
-    let at = named_at dir c.as_str.result.now (string_bytes c.in_ok-name.name) c.deref.result.now c.follow_row.new.path.items
-    (path_after q x.depth x.entry.name) c.as_str.ensures.value c.in_ok-name.ensures c.deref.ensures.value c.in_ok-follow_row.ensures in
-    let made : Makes mid new (made_as (host_name dir (path_after q x.depth x.entry.name)) (shown_node d x.entry) ∷ []) =
-    subst (λ (n : List ℕ). Makes mid new (made_as n (shown_node d x.entry) ∷ [])) at c.in_ok-make_row.ensures.made in
-    let left = one_more old mid d dir q c.loop-row.row-iterator c.next.new.self x (rows_listed c.args.rows) c.loop-row.invariant.left
-    c.in-Some.ensures.steps new made in
-    record {
-      left = left_behind old new d dir (map (λ (n : Bor Name). n.now) c.follow_row.new.path.items) (path_after q x.depth x.entry.name)
-          c.next.new.self (rows_listed c.args.rows) c.in_ok-follow_row.ensures left;
-      kept = (
-        c.in_ok-make_row.ensures.kept.0 ∙ c.loop-row.invariant.kept.0,
-        c.in_ok-make_row.ensures.kept.1 ∙ c.loop-row.invariant.kept.1,
-        c.in_ok-make_row.ensures.kept.2 ∙ c.loop-row.invariant.kept.2,
-      );
-    }
+    let p : Path = path_after q x.depth x.entry.name in
+    let left : Path = map (λ (n : Bor Name). n.now) c.loop-row.rest.items in
+    let rest : Path = map (λ (n : Bor Name). n.now) c.follow_rest.new.rest.items in
+    let front : IsFront at p c.behind-front.result = c.behind-front.ensures q c.loop-row.invariant.1.front in
+    let there : is_some (below at p) ≡ true = sym (c.if-not-is_below.ensures p front) in
+    let goes : rest ≡ path_after left c.more.result x.entry.name =
+    subst (λ (y : Listed). rest ≡ path_after left c.more.result y.entry.name) c.row.view_is c.in_ok-follow_rest.ensures in
+    let inside : below at p ≡ Some rest =
+    left_after at q left x.depth x.entry.name c.loop-row.invariant.1.rest there
+    ∙ ap (λ (i : ℕ). Some (path_after left i x.entry.name)) (sym (c.more.ensures p front)) ∙ ap (λ (r : Path). Some r) (sym goes) in
+    let named = named_at dir c.as_str.result.now (string_bytes c.in_ok-name.name) c.deref.result.now c.follow_rest.new.rest.items rest
+    c.as_str.ensures.value c.in_ok-name.ensures c.deref.ensures.value refl in
+    let made : Makes mid new (made_as (host_name dir rest) (shown_node d x.entry) ∷ []) =
+    subst (λ (n : List ℕ). Makes mid new (made_as n (shown_node d x.entry) ∷ [])) named c.in_ok-make_row.ensures.made in (
+      p,
+      record {
+        front = front;
+        rest = some_left at p rest inside;
+        left = one_more old mid d at dir q c.loop-row.row-iterator c.next.new.self x (rows_listed c.args.rows) c.loop-row.invariant.1.left
+            c.in-Some.ensures.steps rest inside new made;
+        kept = (
+          c.in_ok-make_row.ensures.kept.0 ∙ c.loop-row.invariant.1.kept.0,
+          c.in_ok-make_row.ensures.kept.1 ∙ c.loop-row.invariant.1.kept.1,
+          c.in_ok-make_row.ensures.kept.2 ∙ c.loop-row.invariant.1.kept.2,
+        );
+      },
+    )

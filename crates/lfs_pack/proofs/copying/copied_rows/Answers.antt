@@ -1,5 +1,5 @@
 -- One row more is copied.
-use Rattle.std.proofs.Common.{rules, ◌≡◌, ◌∙◌, [], ◌∷◌, ◌++◌, Bor, List, ap, sym, subst, map}
+use Rattle.std.proofs.Common.{◌≡◌, ◌∙◌, [], ◌∷◌, ◌++◌, Bor, List, ap, sym, subst, map}
 use Rattle.std.proofs.lemmas.List.{map-append}
 use Rattle.lfs_block.specs.Disk.{Disk}
 use Rattle.lfs_meta.specs.Name.{Name}
@@ -7,7 +7,7 @@ use Rattle.lfs_fs.specs.Listed.{Listed, path_after, row_after, rows_after, rows_
 use Rattle.lfs_fs.specs.Path.{Path}
 use Rattle.lfs_fs.specs.Row.{Row}
 use Rattle.lfs_pack.specs.RowText.{RowText, shown_text, source_text}
-use Rattle.lfs_pack.proofs.CopyingLemmas.{AreLeft, all_copied, all_left, has_blocks, one_more, same_shown}
+use Rattle.lfs_pack.proofs.CopyingLemmas.{AreLeft, has_blocks, one_more, same_shown}
 use Rattle.lfs_pack.proofs.copying.copied_rows.Goals as goal
 
 pub source_row-requires : goal.source_row-requires

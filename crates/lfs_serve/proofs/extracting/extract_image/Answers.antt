@@ -6,5 +6,5 @@ use Rattle.lfs_serve.proofs.extracting.extract_image.Goals as goal
 pub returns-in_err-mounted-clause-made : goal.returns-in_err-mounted-clause-made
 returns-in_err-mounted-clause-made g c =
     let p = err_from_is_err_and c.from_residual.result c.from_residual.ensures.1 in
-    unmounted_ends c.args.image.now.disk c.args.dir.now (g.H.Known.known c.args.host.now).tree (g.H.Known.known c.args.host.now) c.in_err-mounted.field-0.0
+    unmounted_ends c.args.image.now.disk c.args.path.now c.args.dir.now (g.H.Known.known c.args.host.now).tree (g.H.Known.known c.args.host.now) c.in_err-mounted.field-0.0
     c.from_residual.result p.0 p.1 p.2 c.in_err-mounted.ensures.refused

@@ -25,7 +25,7 @@ returns-in_err-handed-clause-made g c =
     let kept = c.taken_up.ensures.kept in
     let p = err_from_is_err_and c.from_residual.result c.from_residual.ensures.1 in
     let manner : Manner = record { takes_older = request.takes_older; view = c.args.view } in
-    file_unread manner request.size name c.args.dir.now old new (stopped_by c.from_residual.result) fault (kept.0.0, kept.0.2) kept.2
+    file_unread manner request.size name c.args.path.now c.args.dir.now old new (stopped_by c.from_residual.result) fault (kept.0.0, kept.0.2) kept.2
     (stopped_at c.from_residual.result fault p.0 p.1 p.2) (not_taken_unread new name fault c.in_err-handed.ensures.refused)
 
 pub returns-in_err-image-clause-made : goal.returns-in_err-image-clause-made
@@ -37,7 +37,7 @@ returns-in_err-image-clause-made g c =
     let on = c.from_residual-in_err-image in
     let p = err_from_is_err_and on.result on.ensures.1 in
     let manner : Manner = record { takes_older = request.takes_older; view = c.args.view } in
-    file_unread manner request.size request.image.now c.args.dir.now old new (stopped_by on.result) (Refused Memory) (kept.0.0, kept.0.2) kept.2
+    file_unread manner request.size request.image.now c.args.path.now c.args.dir.now old new (stopped_by on.result) (Refused Memory) (kept.0.0, kept.0.2) kept.2
     (stopped_at on.result (Refused Memory) p.0 p.1 p.2) refl
 
 pub returns-in_err-pass_alone-clause-made : goal.returns-in_err-pass_alone-clause-made
@@ -60,7 +60,7 @@ returns-in_err-pass_alone-clause-made g c =
     reads_at old.files name bytes c.start.result (start_of view) c.start.ensures
     (asked_read c.in_ok-handed.handed.kind c.start.result mid.files old.files name bytes c.in_ok-handed.ensures.kind kept.0.0
     c.in_ok-handed.ensures.handed.image) in
-    file_later manner request.size name c.args.dir.now bytes old mid (stopped_by on.result) stop.fault reads (kept.0.0, kept.0.2) kept.2
+    file_later manner request.size name c.args.path.now c.args.dir.now bytes old mid (stopped_by on.result) stop.fault reads (kept.0.0, kept.0.2) kept.2
     (stopped_at on.result stop.fault p.0 p.1 (ap (λ s. s.fault) p.2)) later
 
 pub returns-clause-made : goal.returns-clause-made
@@ -82,7 +82,7 @@ returns-clause-made g c =
     reads_at old.files name bytes c.start.result (start_of view) c.start.ensures
     (asked_read c.in_ok-handed.handed.kind c.start.result mid.files old.files name bytes c.in_ok-handed.ensures.kind kept.0.0
     c.in_ok-handed.ensures.handed.image) in
-    file_ends manner request.size name c.args.dir.now bytes c.in_ok-image.image.items old mid new (stopped_by c.extract_bytes.result) reads kept.1
+    file_ends manner request.size name c.args.path.now c.args.dir.now bytes c.in_ok-image.image.items old mid new (stopped_by c.extract_bytes.result) reads kept.1
     kept.2 (left.0 ∙ kept.0.0, left.2 ∙ kept.0.2) none c.in_ok-image.ensures.read c.extract_bytes.ensures.made
 
 pub returns-clause-kept : goal.returns-clause-kept

@@ -18,6 +18,7 @@ use Rattle.lfs_fs.specs.RowShown.{HasBlocks, shown_body}
 use Rattle.lfs_fs.specs.Tree.{entry_at}
 use Rattle.lfs_fs.specs.Volume.{Volume}
 use Rattle.lfs_law.specs.HomeChecks.{entry_checks}
+use Rattle.lfs_draft.specs.Editable.{NamesRise}
 use Rattle.lfs_command.specs.Verdict.{first_refusal}
 use Rattle.lfs_step.specs.Contents.{IsContents}
 use Rattle.lfs_step.specs.Sent.{SendsContents}
@@ -33,6 +34,11 @@ returns-then-is_empty-clause-refused g c =
     refused_root c.rows_show_the_tree.ensures (g.B.Blocks.disk c.args.disk.now)
     c.size-within_limits.ensures.disk c.args.mounted.now c.requires.mounted c.args.path.now path c.in_ok-names.ensures.spelled
     (ap (map (λ (n : Bor Name). n.now)) none)
+
+pub entry_there-requires : goal.entry_there-requires
+entry_there-requires g c =
+    subst (λ (o : Volume). NamesRise o.directories) (sym (c.outline.ensures ∙ c.requires.mounted.outline))
+    (c.outlines_are_sound.ensures c.requires.mounted.volume c.requires.mounted.sound).order
 
 pub returns-in_err-entry-clause-refused : goal.returns-in_err-entry-clause-refused
 returns-in_err-entry-clause-refused g c =

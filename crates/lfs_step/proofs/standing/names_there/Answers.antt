@@ -1,5 +1,5 @@
 -- What stands at a path of the outline stands there in the tree.
-use Rattle.std.proofs.Common.{◌≡◌, Bor, List, [], Some, ap, length, map, sym, ◌∙◌}
+use Rattle.std.proofs.Common.{◌≡◌, Bor, List, [], Some, ap, length, map, subst, sym, ◌∙◌}
 use Rattle.std.specs.Vec.{vec_len}
 use Rattle.std.proofs.lemmas.List.{nil_from_length, length-map}
 use Rattle.std.proofs.lemmas.Bool.{eqb-true, eqb-false}
@@ -7,12 +7,18 @@ use Rattle.std.proofs.lemmas.Result.{err_from_is_err_and}
 use Rattle.lfs_command.specs.Verdict.{first_refusal}
 use Rattle.lfs_fs.specs.Path.{Path}
 use Rattle.lfs_fs.specs.Tree.{entry_at}
+use Rattle.lfs_draft.specs.Editable.{NamesRise}
 use Rattle.lfs_fs.specs.Volume.{Volume}
 use Rattle.lfs_law.specs.HomeChecks.{entry_checks}
 use Rattle.lfs_listing.specs.Below.{names}
 use Rattle.lfs_meta.specs.Name.{Name}
 use Rattle.lfs_step.proofs.ContentsLemmas.{refused_listing, root_listed, there_listed}
 use Rattle.lfs_step.proofs.standing.names_there.Goals as goal
+
+pub entry_there-requires : goal.entry_there-requires
+entry_there-requires g c =
+    subst (λ (o : Volume). NamesRise o.directories) (sym (c.outline.ensures ∙ c.requires.outline))
+    (c.outlines_are_sound.ensures c.requires.volume c.requires.sound).order
 
 pub returns-then-is_empty-clause-there : goal.returns-then-is_empty-clause-there
 returns-then-is_empty-clause-there g c =
