@@ -75,6 +75,14 @@ def is_listed(counts, what, image, tree):
     counts.check(f"{what}: rows", found == wanted, [pair for pair in zip(found, wanted) if pair[0] != pair[1]][:1])
 
 
+def parts_are_listed(counts, what, image, paths):
+    """What is listed of a path is what all of the image has there and below it."""
+    rows = image.rows()
+    for path in paths:
+        wanted = [row for row in rows if row.path == path or row.path.startswith(f"{path}/")]
+        counts.check(f"{what}: rows of {path!r}", image.rows(path) == wanted)
+
+
 def are_held(counts, what, tree, read):
     """The contents of the tree are what is read."""
     wrong = [path for path, (held, _) in tree.items() if held is not None and read(path) != held]
@@ -102,6 +110,7 @@ def comes_back_from_batches(counts, chance, at):
         with image.batch(one=at != 3) as batch:
             put(batch, {path: tree[path] for path in part})
     is_listed(counts, f"batch {at}", image, tree)
+    parts_are_listed(counts, f"batch {at}", image, paths[:3] + [path for path in paths if tree[path][0] is None][:5])
     tree = renamed(image, tree) if is_odd else tree
     image.extract(f"held{at}")
     are_held(counts, f"batch {at}", tree, lambda path: pathlib.Path(f"held{at}{path}").read_bytes())
@@ -149,6 +158,11 @@ def faults(counts):
     nothing = "a.img: /x: nothing is there"
     raises(counts, "no such path", lfsed.Refusal, 30, "NotFound", [nothing], lambda: image.remove("/x"))
     raises(counts, "no such rows", lfsed.Refusal, 30, "NotFound", [nothing], lambda: image.rows("/x"))
+    odd = "a.img: /\udcff: nothing is there"
+    raises(counts, "no such odd rows", lfsed.Refusal, 30, "NotFound", [odd], lambda: image.rows("/\udcff"))
+    no_path = ["a.img: x: a path begins with /: try /x"]
+    raises(counts, "rows of no path", lfsed.Refusal, 35, "BadPath", no_path, lambda: image.rows("x"))
+    raises(counts, "no such part", lfsed.Refusal, 30, "NotFound", [nothing], lambda: image.extract("part", "/x"))
     full = ["need 7 free 6", "a.img: lfsed blocks --sum a.img says what each path takes"]
     raises(counts, "no space", lfsed.Refusal, 43, "NoSpace", full, lambda: image.write("/z", bytes(3_041)))
     no_image = ["zeros.img: blocks 0 and 1 (/): neither holds a whole commit"]
@@ -194,6 +208,10 @@ def other_calls(counts):
     counts.check("attributes", image.attributes("/e") == {1: b""}, image.attributes("/e"))
     image.extract("only", "/e")
     counts.check("extract", [path.name for path in pathlib.Path("only").iterdir()] == ["a"])
+    there, file = ["only: is there already"], ["c.img: /e/a: is a file"]
+    raises(counts, "extract again", lfsed.HostFault, 62, "HostEntry", there, lambda: image.extract("only", "/e"))
+    raises(counts, "extract of a file", lfsed.Refusal, 32, "NotADirectory", file, lambda: image.extract("part", "/e/a"))
+    counts.check("extract of nothing", not pathlib.Path("part").exists())
     image.rename("/e/a", "/e/b")
     image.undo(2)
     image.redo()

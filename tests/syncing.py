@@ -1,8 +1,8 @@
 #!/usr/bin/env python3
 """Runs what changes whole trees of an image as one change: `sync` with a folder of the host, `rm -r`, `mkdir -p` and `put -p`. What each
 of them leaves is compared with rows by hand, or with a plain model of the tree; with the script of the same commands as one change, byte
-for byte with its journal; and with what a reader apart from the program finds. One `undo` takes all of it back, and `redo` makes it
-again. What is refused leaves image, journal and undone changes."""
+for byte with its journal; with what a reader apart from the program finds; and with `pack` of the same folder. One `undo` takes all of it
+back, and `redo` makes it again. What is refused leaves image, journal and undone changes."""
 import os
 import pathlib
 import random
@@ -45,6 +45,11 @@ def rest_of(at, path):
 def held_at(tree, at):
     """What stands at a path and below it, without attributes."""
     return {rest_of(at, path): held for path, (held, _) in tree.items() if rest_of(at, path) is not None}
+
+
+def bare(rows):
+    """The tree of what a folder holds, without attributes."""
+    return {joined(b"/", rest): (held, {}) for rest, held in {b"": None, **rows}.items()}
 
 
 def synced(tree, at, rows):
@@ -162,12 +167,14 @@ class Trees:
         self.folder.check(f"{what}: check", ended == (0, "", said(reader)), ended)
 
     def keeps(self, what, words, given=b"", told=""):
-        """Runs words that are taken and change nothing: the image is as it was, and so is the history."""
+        """Runs words that are taken and change nothing: the image is as it was, and so is its journal. Where there is none, one without
+        changes may come."""
         image_of, saved, _ = self.files()
         self.does(what, words, given, told)
         after = self.files()
         self.folder.check(f"{what}: image", after[0] == image_of)
         self.folder.check(f"{what}: history", (history(after[1]), after[2]) == (history(saved), []))
+        self.folder.check(f"{what}: journal", after[1] == saved or not saved)
 
     def makes(self, what, words, lines, given=b""):
         """Runs words that do as one change what a script of these lines does, with its undo and redo."""
@@ -217,12 +224,13 @@ class Trees:
         self.keeps(f"{what}: again", words)
 
     def is_packed_alike(self, what, rows):
-        """Packs the folder, which holds these rows, beside the image: they differ in attributes alone."""
-        self.does(f"{what}: pack", ["pack", "--least", "b.img", "src"])
-        bare = {joined(b"/", rest): (held, {}) for rest, held in {b"": None, **rows}.items()}
-        wanted = difference_of(bare, self.tree())
-        status, told, printed = self.run(["diff", "b.img", "a.img"])
-        self.folder.check(f"{what}: beside pack", (status, told, printed) == ended_by(wanted), (status, told, printed))
+        """Packs the folder, which holds these rows, beside the image, in as many blocks: they differ in attributes alone."""
+        self.does(f"{what}: pack", ["pack", "--count", str(len(self.folder.old()) // self.size), "b.img", "src"])
+        wanted = ended_by(difference_of(bare(rows), self.tree()))
+        ended = self.run(["diff", "b.img", "a.img"])
+        self.folder.check(f"{what}: beside pack", ended == wanted, ended)
+        ended = self.run(["diff", "--quiet", "b.img", "a.img"])
+        self.folder.check(f"{what}: beside pack, quiet", ended == (wanted[0], "", b""), ended)
 
     def refuses(self, what, words, first, second="", status=1, given=b""):
         """Runs words that are refused: how what is told begins, and image and journal as they were."""
@@ -464,6 +472,69 @@ def random_pairs(folder):
         at = some_path(chance, tree)
         rows, what = changed(chance, held_at(tree, at), trees.size), f"pair {number}, blocks of {trees.size}, {at.decode()}"
         trees.syncs(what, at, rows)
+        if at == b"/":
+            trees.is_packed_alike(what, rows)
+
+
+# The same of images that are packed, on which two of the folders below have room.
+PACKED = (256, 400), (512, 300)
+
+
+def grown(chance, size, like, more):
+    """What a folder holds: most of what another one holds, of which some is rewritten or turned into the other kind, and more besides."""
+    rows = {b"": None}
+    for rest, held in like.items():
+        act = chance.randrange(8)
+        if not rest or act == 0 or rows.get(rest.rpartition(b"/")[0], b"") is not None:
+            continue
+        if act == 1:
+            rows[rest] = some_contents(chance, size) if held is None else None
+        elif act == 2 and held is not None:
+            rows[rest] = chance.randbytes(len(held))
+        elif act == 3 and held is not None:
+            rows[rest] = some_contents(chance, size)
+        else:
+            rows[rest] = held
+    for _ in range(more):
+        places = [rest for rest in rows if rows[rest] is None]
+        name = b"/%c%d" % (chance.choice(b"abc"), chance.randrange(4)) + b"n" * chance.choice([0, 0, 9])
+        held = None if chance.random() < 0.4 else some_contents(chance, size)
+        rows.setdefault(chance.choice(places[-chance.choice([2, 20]):]) + name, held)
+    return rows
+
+
+def some_contents(chance, size):
+    """Contents for an entry, or for up to seven blocks of a size."""
+    return some_bytes(chance, size) * chance.choice([1, 3])
+
+
+def packed(trees, what, chance, count, rows, share):
+    """Packs a folder of these rows into the image, and sets attributes of such a share of them; answers what stands there then."""
+    trees.holds(rows)
+    trees.does(f"{what}: packed", ["pack", "--count", str(count), "a.img", "src"])
+    tree, lines = bare(rows), []
+    for path, (_, values) in tree.items():
+        if chance.random() < share:
+            values[chance.choice(b"prt")] = chance.randbytes(2)
+            lines += [f"setattr {spelled(path)} {kind:02x} {value.hex()}" for kind, value in values.items()]
+    if lines:
+        trees.does(f"{what}: attributes", ["batch", "a.img"], script(lines))
+    trees.stands(f"{what}: before", tree)
+    return tree
+
+
+def packed_pairs(folder):
+    """200 images that are packed of a folder, half of them with attributes. Each of them, or in every third pair one of its directories,
+    becomes like another folder, which has much of what is there; in every fifth pair all but its names is apart."""
+    for seed in range(200):
+        chance = random.Random(seed)
+        size, count = chance.choice(PACKED)
+        trees, what = Trees(folder, size), f"packed pair {seed}, blocks of {size}"
+        tree = packed(trees, what, chance, count, grown(chance, size, {}, chance.randrange(25)), chance.choice([0, 0.5]))
+        below = [path for path in tree if tree[path][0] is None and path != b"/"]
+        at = chance.choice(below) if below and seed % 3 == 0 else b"/"
+        rows = grown(chance, size, held_at(tree, at) if seed % 5 else {}, chance.randrange(9))
+        trees.syncs(f"{what}, {at.decode()}", at, rows)
         if at == b"/":
             trees.is_packed_alike(what, rows)
 
@@ -830,6 +901,7 @@ if __name__ == "__main__":
         nested,
         many_files,
         random_pairs,
+        packed_pairs,
         random_removals,
         random_parents,
         worked_commands,

@@ -8,7 +8,7 @@ from types import TracebackType
 from typing import Dict, List, Optional, Type, Union
 
 from . import _faults, _texts
-from ._program import File, ImagePath, Word, bytes_of, run
+from ._program import File, ImagePath, Word, bytes_of, is_taken, run
 from ._records import Change, Difference, Row, Summary
 
 Number = Union[int, str]
@@ -73,10 +73,14 @@ class Image:
         >>> [row.is_directory for row in image.rows("/a")]
         [False]
         """
-        at = bytes_of(path).decode("utf-8", "surrogateescape")
-        front = at.rstrip("/") + "/"
-        found = [row for row in _texts.rows(self._ask("ls")) if row.path == at or row.path.startswith(front)]
-        if not found or found[0].path != at:
+        word = bytes_of(path)
+        return _texts.rows(self._ask("ls", word)) if is_taken(word) else self._rows_of_all(word)
+
+    def _rows_of_all(self, path: bytes) -> List[Row]:
+        """The same of a path that the command line doesn't take."""
+        at = path.decode("utf-8", "surrogateescape")
+        found = [row for row in _texts.rows(self._ask("ls")) if row.path == at or row.path.startswith(f"{at}/")]
+        if not found:
             raise _faults.fault(1, 30, "NotFound", [f"{os.fspath(self.path)}: {at}: nothing is there"])
         return found
 
@@ -181,20 +185,15 @@ class Image:
         return _texts.differences(self._ask("diff", of.path, block=self.block if of.block == self.block else "auto"))
 
     def extract(self, folder: File, path: ImagePath = "/") -> None:
-        """Makes a new folder with what is in a directory of the image; attributes are left behind."""
-        at = self.rows(path)[0]
-        if not at.is_directory:
-            raise _faults.fault(1, 32, "NotADirectory", [f"{os.fspath(self.path)}: {at.path}: is a file"])
-        if at.path == "/":
-            self._ask("extract", folder)
-            return
-        to = pathlib.Path(folder)
-        if os.path.lexists(to):
-            raise _faults.fault(4, 62, "HostEntry", [f"{to}: is there already"])
-        with tempfile.TemporaryDirectory(prefix="lfsed-", dir=to.parent) as room:
-            whole = pathlib.Path(room) / "whole"
-            self._ask("extract", whole)
-            (whole / at.path[1:]).rename(to)
+        """Makes a new folder with what is in a directory of the image; attributes are left behind.
+
+        >>> image = format("x.img", block=512, count=16)
+        >>> image.write("/etc/id", b"7", parents=True)
+        >>> image.extract("etc", "/etc")
+        >>> [path.name for path in pathlib.Path("etc").iterdir()]
+        ['id']
+        """
+        self._ask("extract", folder, path)
 
     def sync(self, folder: File, path: ImagePath = "/") -> None:
         """Makes what stands at a path like a folder, as one change: what is equal stays as it is.

@@ -38,6 +38,15 @@ def bytes_of(word: Word) -> bytes:
     return str(word).encode("utf-8", "surrogateescape") if isinstance(word, (str, int)) else os.fsencode(word)
 
 
+def is_taken(word: bytes) -> bool:
+    """Whether the command line takes a word: UTF-8 without a zero byte."""
+    try:
+        word.decode("utf-8")
+    except UnicodeDecodeError:
+        return False
+    return b"\0" not in word
+
+
 def run(command: str, options: List[Word], words: List[Word], given: bytes = b"", statuses: Tuple[int, ...] = (0,)) -> bytes:
     """What a run prints; raises its fault where it doesn't end well."""
     line = [os.fsencode(program()), command.encode(), *map(bytes_of, options), b"--", *map(bytes_of, words)]
