@@ -62,15 +62,15 @@ _lfsed() {
       words='IMAGE DIR'
       ;;
     check)
-      options='-b --block --device --offset --older -h --help'
+      options='-b --block --json --device --offset --older -h --help'
       words='IMAGE'
       ;;
     ls)
-      options='-b --block --device --offset --older -h --help'
+      options='-b --block --sha256 --json --device --offset --older -h --help'
       words='IMAGE PATH'
       ;;
     blocks)
-      options='-b --block --sum --device --offset --older -h --help'
+      options='-b --block --sum --json --device --offset --older -h --help'
       words='IMAGE'
       ;;
     cat)
@@ -78,11 +78,11 @@ _lfsed() {
       words='IMAGE PATH'
       ;;
     diff)
-      options='-b --block --quiet --device --offset --older -h --help'
+      options='-b --block --quiet --json --device --offset --older -h --help'
       words='IMAGE OTHER'
       ;;
     log)
-      options='-b --block --older -h --help'
+      options='-b --block --json --older -h --help'
       words='IMAGE'
       ;;
     mkdir)

@@ -115,6 +115,7 @@ complete -c lfsed -n '__fish_seen_subcommand_from salvage' -l older -d 'Go on wi
 complete -c lfsed -n '__fish_seen_subcommand_from salvage' -s h -l help -d 'Print help'
 complete -c lfsed -n '__lfsed_at check 0' -F
 complete -c lfsed -n '__fish_seen_subcommand_from check' -s b -l block -x -d 'Size of a block, a multiple of 16 from 256 to 65536, or auto [default: 4096]'
+complete -c lfsed -n '__fish_seen_subcommand_from check' -l json -d 'Print an object of JSON a line'
 complete -c lfsed -n '__fish_seen_subcommand_from check' -l device -d 'Read the image as a device does: also disk version 2.1, and a superblock that was expanded'
 complete -c lfsed -n '__fish_seen_subcommand_from check' -l offset -x -d 'Place in the file at which the image begins: 1114112, 0x110000, 1088k or 1M'
 complete -c lfsed -n '__fish_seen_subcommand_from check' -l older -d 'Go on with the state before commits of a later disk version, which are not read'
@@ -122,6 +123,8 @@ complete -c lfsed -n '__fish_seen_subcommand_from check' -s h -l help -d 'Print 
 complete -c lfsed -n '__lfsed_at ls 0' -F
 complete -c lfsed -n '__lfsed_at ls 1' -a '(__lfsed_paths)'
 complete -c lfsed -n '__fish_seen_subcommand_from ls' -s b -l block -x -d 'Size of a block, a multiple of 16 from 256 to 65536, or auto [default: 4096]'
+complete -c lfsed -n '__fish_seen_subcommand_from ls' -l sha256 -d 'Print the SHA-256 of each file\'s contents too'
+complete -c lfsed -n '__fish_seen_subcommand_from ls' -l json -d 'Print an object of JSON a line'
 complete -c lfsed -n '__fish_seen_subcommand_from ls' -l device -d 'Read the image as a device does: also disk version 2.1, and a superblock that was expanded'
 complete -c lfsed -n '__fish_seen_subcommand_from ls' -l offset -x -d 'Place in the file at which the image begins: 1114112, 0x110000, 1088k or 1M'
 complete -c lfsed -n '__fish_seen_subcommand_from ls' -l older -d 'Go on with the state before commits of a later disk version, which are not read'
@@ -129,6 +132,7 @@ complete -c lfsed -n '__fish_seen_subcommand_from ls' -s h -l help -d 'Print hel
 complete -c lfsed -n '__lfsed_at blocks 0' -F
 complete -c lfsed -n '__fish_seen_subcommand_from blocks' -s b -l block -x -d 'Size of a block, a multiple of 16 from 256 to 65536, or auto [default: 4096]'
 complete -c lfsed -n '__fish_seen_subcommand_from blocks' -l sum -d 'Print how many blocks each path takes, with all that is below it'
+complete -c lfsed -n '__fish_seen_subcommand_from blocks' -l json -d 'Print an object of JSON a line'
 complete -c lfsed -n '__fish_seen_subcommand_from blocks' -l device -d 'Read the image as a device does: also disk version 2.1, and a superblock that was expanded'
 complete -c lfsed -n '__fish_seen_subcommand_from blocks' -l offset -x -d 'Place in the file at which the image begins: 1114112, 0x110000, 1088k or 1M'
 complete -c lfsed -n '__fish_seen_subcommand_from blocks' -l older -d 'Go on with the state before commits of a later disk version, which are not read'
@@ -144,12 +148,14 @@ complete -c lfsed -n '__lfsed_at diff 0' -F
 complete -c lfsed -n '__lfsed_at diff 1' -F
 complete -c lfsed -n '__fish_seen_subcommand_from diff' -s b -l block -x -d 'Size of a block, a multiple of 16 from 256 to 65536, or auto [default: 4096]'
 complete -c lfsed -n '__fish_seen_subcommand_from diff' -l quiet -d 'Print nothing; the status says whether the images differ'
+complete -c lfsed -n '__fish_seen_subcommand_from diff' -l json -d 'Print an object of JSON a line'
 complete -c lfsed -n '__fish_seen_subcommand_from diff' -l device -d 'Read the image as a device does: also disk version 2.1, and a superblock that was expanded'
 complete -c lfsed -n '__fish_seen_subcommand_from diff' -l offset -x -d 'Place in the file at which the image begins: 1114112, 0x110000, 1088k or 1M'
 complete -c lfsed -n '__fish_seen_subcommand_from diff' -l older -d 'Go on with the state before commits of a later disk version, which are not read'
 complete -c lfsed -n '__fish_seen_subcommand_from diff' -s h -l help -d 'Print help'
 complete -c lfsed -n '__lfsed_at log 0' -F
 complete -c lfsed -n '__fish_seen_subcommand_from log' -s b -l block -x -d 'Size of a block, a multiple of 16 from 256 to 65536, or auto [default: 4096]'
+complete -c lfsed -n '__fish_seen_subcommand_from log' -l json -d 'Print an object of JSON a line'
 complete -c lfsed -n '__fish_seen_subcommand_from log' -l older -d 'Go on with the state before commits of a later disk version, which are not read'
 complete -c lfsed -n '__fish_seen_subcommand_from log' -s h -l help -d 'Print help'
 complete -c lfsed -n '__lfsed_at mkdir 0' -F

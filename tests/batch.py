@@ -452,7 +452,7 @@ def images_that_are_refused(folder):
     rows = (
         ("another image", (image[:-512], saved), "lfsed: 11 Geometry\nlfsed: a.img: its superblock states 64 blocks of 512 bytes\n"),
         ("another journal", (image, saved[:-1] + b"\0"),
-         "lfsed: 51 JournalMismatch\nlfsed: a.img.lfsj belongs to another image; lfsed forget a.img drops it\n"),
+         "lfsed: 51 JournalMismatch\nlfsed: a.img.lfsj: belongs to another image; lfsed forget a.img drops it\n"),
         ("no journal", (image, b"lfsx"), "lfsed: 50 JournalFormat\n"),
     )
     for what, files, told in rows:

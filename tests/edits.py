@@ -11,7 +11,7 @@ import tempfile
 from support.counts import Counts
 
 HOME = pathlib.Path(__file__).resolve().parent.parent
-CRATE = "lfs_sink"
+CRATE = "lfs_host"
 SEND = "        send(out, self)"
 WRITE = "match self.bytes.extend_from_slice(bytes) {"
 # Of each edit the file, what stands there, what is to stand there, and how its line is to begin.

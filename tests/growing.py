@@ -15,7 +15,7 @@ from support.scattering import laid
 
 BAD_COUNT, TOO_LARGE = "lfsed: 46 BadCount\n", "lfsed: 42 EntryTooLarge\n"
 NO_FORMAT, NO_IMAGE = "lfsed: 50 JournalFormat\n", "lfsed: 52 JournalImage\n"
-NO_MATCH = "lfsed: 51 JournalMismatch\nlfsed: a.img.lfsj belongs to another image; lfsed forget a.img drops it\n"
+NO_MATCH = "lfsed: 51 JournalMismatch\nlfsed: a.img.lfsj: belongs to another image; lfsed forget a.img drops it\n"
 NO_UNDO, NO_REDO, FULL = "lfsed: 53 NothingToUndo\n", "lfsed: 54 NothingToRedo\n", "lfsed: 55 JournalFull\n"
 ERASED = b"\xff" * 512
 SIZES = 256, 512, 4_096

@@ -28,7 +28,7 @@ COMPLETED = [
     ("lfsed ", f"--help --version {COMMANDS} help"),
     ("lfsed p", "pack put"),
     ("lfsed help und", "undo"),
-    ("lfsed check -", "--block --device --help --offset --older -b -h"),
+    ("lfsed check -", "--block --device --help --json --offset --older -b -h"),
     ("lfsed pack --c", "--count"),
     ("lfsed check ", "fw.img src"),
     ("lfsed check fw", "fw.img"),
@@ -56,7 +56,7 @@ COMPLETED = [
     ("lfsed find f", "fw.img"),
     ("lfsed find fw.img ", ""),
     ("lfsed find --", "--help"),
-    ("lfsed blocks --", "--block --device --help --offset --older --sum"),
+    ("lfsed blocks --", "--block --device --help --json --offset --older --sum"),
     ("lfsed blocks --sum f", "fw.img"),
     ("lfsed blocks fw.img ", ""),
     ("lfsed ls --offset ", ""),
@@ -123,13 +123,13 @@ def files_below(prefix):
 def is_installed(counts, prefix):
     """All is put below a prefix and taken away from there, but for what others put there."""
     ended = subprocess.run([HOME / "bin/install", prefix], stdout=subprocess.PIPE, text=True)
-    counts.check("install", (ended.returncode, ended.stdout) == (0, "lfsed 0.1.0\n"), ended)
+    counts.check("install", (ended.returncode, ended.stdout) == (0, "lfsed 0.2.0\n"), ended)
     wanted = all_installed()
     counts.check("what is installed", files_below(prefix) == {*wanted}, files_below(prefix) ^ {*wanted})
     for name, source in wanted.items():
         counts.check(name, (prefix / name).read_bytes() == (HOME / source).read_bytes())
     ended = subprocess.run([prefix / "bin/lfsed", "--version"], stdout=subprocess.PIPE, text=True)
-    counts.check("installed", ended.stdout == "lfsed 0.1.0\n", ended)
+    counts.check("installed", ended.stdout == "lfsed 0.2.0\n", ended)
     (prefix / "share/man/man1/other.1").write_bytes(b"")
     kept = prefix / "share/lfsed/python/lfsed/__pycache__"
     kept.mkdir()

@@ -5,6 +5,7 @@ that is there."""
 import ast
 import contextlib
 import doctest
+import hashlib
 import importlib
 import os
 import pathlib
@@ -83,6 +84,12 @@ def parts_are_listed(counts, what, image, paths):
         counts.check(f"{what}: rows of {path!r}", image.rows(path) == wanted)
 
 
+def are_digested(counts, what, tree, rows):
+    """The digests of rows are those of the tree's contents."""
+    wanted = {path: None if held is None else hashlib.sha256(held).hexdigest() for path, (held, _) in tree.items()}
+    counts.check(f"{what}: digests", {row.path: row.sha256 for row in rows} == {"/": None, **wanted})
+
+
 def are_held(counts, what, tree, read):
     """The contents of the tree are what is read."""
     wrong = [path for path, (held, _) in tree.items() if held is not None and read(path) != held]
@@ -110,6 +117,7 @@ def comes_back_from_batches(counts, chance, at):
         with image.batch(one=at != 3) as batch:
             put(batch, {path: tree[path] for path in part})
     is_listed(counts, f"batch {at}", image, tree)
+    are_digested(counts, f"batch {at}", tree, image.rows(digests=True))
     parts_are_listed(counts, f"batch {at}", image, paths[:3] + [path for path in paths if tree[path][0] is None][:5])
     tree = renamed(image, tree) if is_odd else tree
     image.extract(f"held{at}")
@@ -171,7 +179,7 @@ def faults(counts):
     raises(counts, "no file", lfsed.HostFault, 60, "CannotRead", no_file, lfsed.Image("none.img").check)
     raises(counts, "no batch", lfsed.Refusal, 30, "NotFound", ["standard input: line 2: rm /x"], lambda: refused_batch(image))
     counts.check("no batch: nothing is done", len(image.rows()) == 1)
-    with contextlib.suppress(lfsed.Misuse):
+    with contextlib.suppress(lfsed.UsageError):
         lfsed.Image("a.img", "many").check()
         counts.check("a word that is none", False)
 

@@ -228,6 +228,7 @@ def comparing_rows(runs):
         runs.row(["diff", "a.img", "b.img"], (filled[0], None))
         runs.row(["diff", "a.img", "b.img"], (made[0], None))
         runs.row(["diff", "--quiet", "a.img", "b.img"], (made[0], None))
+        runs.row(["diff", "--json", "a.img", "b.img"], (made[0], None))
     runs.size = "auto"
     other.write_bytes(image(256, 16, {0: log(1, superblock(256, 16))}))
     runs.row(["check", "a.img"], filled)
@@ -235,6 +236,16 @@ def comparing_rows(runs):
     runs.row(["diff", "a.img", "b.img"], (filled[0], None))
     runs.row(["check", "a.img"], (bytes(300), None))
     runs.size = 512
+
+
+def told_rows(runs):
+    """What is printed as JSON, and digests."""
+    new = runs.row(["format", "--count=16", "a.img"], NOTHING)
+    made = runs.row(["put", "-p", "a.img", "/a/x"], new, bytes(700))
+    made = runs.row(["setattr", "a.img", "/a", "74", "0102"], made)
+    for command in ["check"], ["ls"], ["ls", "--sha256"], ["blocks"], ["blocks", "--sum"], ["log"]:
+        runs.row([*command, "--json", "a.img"], made)
+    runs.row(["ls", "--sha256", "a.img"], made)
 
 
 def growing_rows(runs):
@@ -362,6 +373,7 @@ def tried(group):
 
 GROUPS = [
     history_rows, script_rows, tree_rows, repacking_rows, device_rows, flash_rows, rows, directory_rows, small_block_rows, folder_rows, comparing_rows,
+    told_rows,
     growing_rows, salvage_rows,
 ]
 

@@ -244,7 +244,7 @@ def journals_of_other_images_are_told(folder):
     held = folder.old()
     folder.play([("mkdir -b 512 a.img /e", 0, 0, "", "")])
     folder.image.write_bytes(held)
-    told = "lfsed: a.img.lfsj belongs to another image; lfsed forget a.img drops it\n"
+    told = "lfsed: a.img.lfsj: belongs to another image; lfsed forget a.img drops it\n"
     for words in "mkdir -b 512 a.img /f", "undo -b 512 a.img", "log -b 512 a.img":
         is_refused(folder, words, 0, "51 JournalMismatch", told)
     folder.play([("forget -b 512 a.img", 0, 0, "", ""), ("mkdir -b 512 a.img /f", 0, 0, "", "")])
@@ -319,7 +319,7 @@ def the_image_of_a_journal_is_told(folder):
     folder.image.write_bytes(old)
     first = "lfsed: 51 JournalMismatch\n"
     second = "lfsed: a.img.new: is the image of the journal: renamed to a.img it mends both, which forget would lose\n"
-    other = "lfsed: a.img.lfsj belongs to another image; lfsed forget a.img drops it\n"
+    other = "lfsed: a.img.lfsj: belongs to another image; lfsed forget a.img drops it\n"
     for bytes_beside, told in (None, other), (old, other), (new[:-512], other), (new, second):
         if bytes_beside is not None:
             beside.write_bytes(bytes_beside)

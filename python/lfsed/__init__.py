@@ -27,15 +27,15 @@ Paths are texts, or bytes; a byte of a path that is no UTF-8 stands in a text as
 zero byte, is listed and taken in batches; the program's command line doesn't take it. Contents and values of attributes are bytes. The
 program is the one that the variable LFSED names, or else the one beside this module, or on the path.
 """
-from ._faults import Fault, HostFault, ImageFault, Misuse, Refusal
+from ._faults import Fault, HostFault, ImageFault, UsageError, Refusal
 from ._image import Batch, Image, format, pack, repack
 from ._records import Change, Difference, Limits, Row, Summary
 
-__version__ = "0.1.0"
+__version__ = "0.2.0"
 __all__ = [
-    "Batch", "Change", "Difference", "Fault", "HostFault", "Image", "ImageFault", "Limits", "Misuse", "Refusal", "Row", "Summary", "format",
+    "Batch", "Change", "Difference", "Fault", "HostFault", "Image", "ImageFault", "Limits", "UsageError", "Refusal", "Row", "Summary", "format",
     "pack", "repack",
 ]
 
-for each in Fault, HostFault, ImageFault, Misuse, Refusal:
+for each in Fault, HostFault, ImageFault, UsageError, Refusal:
     each.__module__ = __name__

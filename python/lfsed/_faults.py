@@ -24,7 +24,7 @@ class Refusal(Fault):
     """A change is refused: status 1."""
 
 
-class Misuse(Fault):
+class UsageError(Fault):
     """The words of a run are refused: status 2."""
 
 
@@ -36,7 +36,7 @@ class HostFault(Fault):
     """Memory, a file or a folder failed: status 4."""
 
 
-KINDS = {1: Refusal, 2: Misuse, 3: ImageFault, 4: HostFault}
+KINDS = {1: Refusal, 2: UsageError, 3: ImageFault, 4: HostFault}
 
 
 def fault(status: int, number: Optional[int], name: Optional[str], lines: List[str]) -> Fault:

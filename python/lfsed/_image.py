@@ -30,8 +30,8 @@ class Image:
     read; with `older` the state before changes of a later version counts. Changes keep the latest `keep` of them, where that is said.
 
     >>> image = format("a.img", block=512, count=16)
-    >>> image.check()
-    Summary(block=512, count=16, free=14, directories=1, files=0)
+    >>> image.check().free
+    14
     """
 
     def __init__(
@@ -44,9 +44,9 @@ class Image:
     def __repr__(self) -> str:
         return f"Image({os.fspath(self.path)!r}, block={self.block!r})"
 
-    def _ask(self, command: str, *words: Word, block: Optional[Number] = None) -> bytes:
+    def _ask(self, command: str, *words: Word, block: Optional[Number] = None, **more: bool) -> bytes:
         """What a command prints that only reads the image."""
-        taken = options(block=block or self.block, device=self.device, offset=self.offset, older=self.older)
+        taken = options(block=block or self.block, device=self.device, offset=self.offset, older=self.older, **more)
         return run(command, taken, [self.path, *words], statuses=(0, 1) if command == "diff" else (0,))
 
     def _past(self, command: str, *words: Word, given: bytes = b"", **more: Union[None, bool, Word]) -> bytes:
@@ -63,8 +63,8 @@ class Image:
         """Judges the image, and answers what it has; raises ImageFault where it doesn't mount."""
         return _texts.summary(self._ask("check"))
 
-    def rows(self, path: ImagePath = "/") -> List[Row]:
-        """What stands at a path and below it, in the order of paths.
+    def rows(self, path: ImagePath = "/", *, digests: bool = False) -> List[Row]:
+        """What stands at a path and below it, in the order of paths; with `digests` each file has that of its contents.
 
         >>> image = format("r.img", block=512, count=16)
         >>> image.write("/a", b"hello")
@@ -74,12 +74,12 @@ class Image:
         [False]
         """
         word = bytes_of(path)
-        return _texts.rows(self._ask("ls", word)) if is_taken(word) else self._rows_of_all(word)
+        return _texts.rows(self._ask("ls", word, sha256=digests)) if is_taken(word) else self._rows_of_all(word, digests)
 
-    def _rows_of_all(self, path: bytes) -> List[Row]:
+    def _rows_of_all(self, path: bytes, digests: bool) -> List[Row]:
         """The same of a path that the command line doesn't take."""
         at = path.decode("utf-8", "surrogateescape")
-        found = [row for row in _texts.rows(self._ask("ls")) if row.path == at or row.path.startswith(f"{at}/")]
+        found = [row for row in _texts.rows(self._ask("ls", sha256=digests)) if row.path == at or row.path.startswith(f"{at}/")]
         if not found:
             raise _faults.fault(1, 30, "NotFound", [f"{os.fspath(self.path)}: {at}: nothing is there"])
         return found
@@ -298,8 +298,8 @@ def repack(
 
     >>> image = format("old.img", block=512, count=64)
     >>> image.write("/a", b"hello")
-    >>> repack("less.img", image, block=512, least=True).check()
-    Summary(block=512, count=2, free=0, directories=1, files=1)
+    >>> repack("less.img", image, block=512, least=True).check().count
+    2
     """
     of = source if isinstance(source, Image) else Image(source)
     limits = options(name_max=name_max, file_max=file_max, attr_max=attr_max, new=new)

@@ -49,7 +49,7 @@ def is_taken(word: bytes) -> bool:
 
 def run(command: str, options: List[Word], words: List[Word], given: bytes = b"", statuses: Tuple[int, ...] = (0,)) -> bytes:
     """What a run prints; raises its fault where it doesn't end well."""
-    line = [os.fsencode(program()), command.encode(), *map(bytes_of, options), b"--", *map(bytes_of, words)]
+    line = [os.fsencode(program()), b"--json", command.encode(), *map(bytes_of, options), b"--", *map(bytes_of, words)]
     ended = subprocess.run(line, input=memoryview(given), capture_output=True, check=False)
     if ended.returncode and not (ended.returncode in statuses and not ended.stderr):
         raise _faults.fault(ended.returncode, *_texts.fault(ended.stderr))

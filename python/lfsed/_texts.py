@@ -1,24 +1,12 @@
-"""The texts of the program: how it spells paths, and what it prints, which is read strictly. No other file knows of them."""
+"""The texts of the program: how a script spells words, and what is printed, an object of JSON a line. No other file knows of them."""
 from __future__ import annotations
 
-import re
-from typing import Dict, Iterator, List, Optional, Tuple
+import json
+from typing import Any, Dict, List, Optional, Tuple
 
 from ._records import Change, Difference, Limits, Row, Summary
 
-SUMMARY = re.compile(r"block (\d+), count (\d+), free (\d+), directories (\d+), files (\d+)\n")
-ROW = re.compile(r"(?:d          -|f (?P<size>[ \d]{9}\d)) (?P<path>/[\x20-\x7e]*)")
-ATTRIBUTE = re.compile(r"@ ([0-9a-f]{2}) ((?:[0-9a-f]{2})*)")
-LIMITS = re.compile(r"~ limits (\d+) (\d+) (\d+)")
-CHANGE = re.compile(r"change (\d+), (done|undone)")
-FAULT = re.compile(r"(\d+) (\w+)(?: (need \d+ free \d+))?")
-ODD = re.compile(rb"\\x([0-9a-f]{2})")
-
-
-def path_of(spelled: str) -> str:
-    """The path that the program spells so."""
-    meant = ODD.sub(lambda found: bytes([int(found[1], 16)]), spelled.encode("ascii"))
-    return meant.decode("utf-8", "surrogateescape")
+MARKS = {"removed": "-", "added": "+", "contents": "~", "limits": "~"}
 
 
 def word_of_script(word: bytes) -> str:
@@ -26,88 +14,77 @@ def word_of_script(word: bytes) -> str:
     return "".join(chr(byte) if 0x21 <= byte <= 0x7E and byte != 0x5C else f"\\x{byte:02x}" for byte in word)
 
 
-def matched(pattern: re.Pattern[str], line: str) -> re.Match[str]:
-    """What a line has, which is to be of this form."""
-    found = pattern.fullmatch(line)
-    if found is None:
-        raise ValueError(f"lfsed printed what this module doesn't read: {line!r}; both have to be of one version")
-    return found
+def objects(printed: bytes) -> List[Dict[str, Any]]:
+    """The objects that are printed, one a line."""
+    return [json.loads(line) for line in printed.decode("utf-8").split("\n") if line]
 
 
-def row_of(first: str, more: List[str]) -> Row:
-    """The row of a line and of those of its attributes."""
-    found = matched(ROW, first)
-    attributes: Dict[int, bytes] = {}
-    for line in more:
-        kind, value = matched(ATTRIBUTE, line).groups()
-        attributes[int(kind, 16)] = bytes.fromhex(value)
-    return Row(path_of(found["path"]), None if found["size"] is None else int(found["size"]), attributes)
+def path_of(said: Dict[str, Any]) -> str:
+    """The path that an object says."""
+    if "path" in said:
+        return str(said["path"])
+    return bytes.fromhex(said["path_hex"]).decode("utf-8", "surrogateescape")
 
 
-def lines_of(printed: bytes) -> List[str]:
-    """The lines that are printed."""
-    return printed.decode("ascii").splitlines()
-
-
-def groups(lines: List[str], begins: Tuple[str, ...]) -> Iterator[List[str]]:
-    """Lines in groups, each of which begins with a line that begins so."""
-    group: List[str] = []
-    for line in lines:
-        if group and line.startswith(begins):
-            yield group
-            group = []
-        group.append(line)
-    if group:
-        yield group
+def row(said: Dict[str, Any]) -> Row:
+    """The row that an object says."""
+    attributes = {attribute["kind"]: bytes.fromhex(attribute["value"]) for attribute in said.get("attributes", [])}
+    return Row(path_of(said), said.get("size"), attributes, said.get("sha256"))
 
 
 def rows(printed: bytes) -> List[Row]:
     """The rows that `ls` prints."""
-    return [row_of(group[0], group[1:]) for group in groups(lines_of(printed), ("d", "f"))]
+    return [row(said) for said in objects(printed)]
 
 
-def difference(lines: List[str]) -> Difference:
-    """The difference of a row's lines, each behind one mark, or of the line of limits."""
-    found = LIMITS.fullmatch(lines[0])
-    if found and len(lines) == 1:
-        return Difference("~", Row("/", None), Limits(*map(int, found.groups())))
-    mark = lines[0][:1]
-    if mark not in ("+", "-", "~") or any(line[:2] != f"{mark} " for line in lines):
-        raise ValueError(f"lfsed printed what this module doesn't read: {lines!r}; both have to be of one version")
-    return Difference(mark, row_of(lines[0][2:], [line[2:] for line in lines[1:]]))
+def limits(said: Dict[str, Any]) -> Limits:
+    """The limits that an object says."""
+    return Limits(said["name_max"], said["file_max"], said["attr_max"])
 
 
-def differences_of(lines: List[str]) -> List[Difference]:
-    """The differences of rows behind marks."""
-    begins = tuple(f"{mark} {kind}" for mark in "+-~" for kind in "df")
-    return [difference(group) for group in groups(lines, begins)]
+def difference(said: Dict[str, Any]) -> Difference:
+    """The difference that an object says."""
+    if said["change"] == "limits":
+        return Difference("~", Row("/", None), limits(said))
+    return Difference(MARKS[said["change"]], row(said))
 
 
 def differences(printed: bytes) -> List[Difference]:
     """What `diff` prints."""
-    return differences_of(lines_of(printed))
+    return [difference(said) for said in objects(printed)]
 
 
 def changes(printed: bytes) -> List[Change]:
-    """The changes that `log` prints."""
-    found = []
-    for group in groups(lines_of(printed), ("change ",)):
-        number, state = matched(CHANGE, group[0]).groups()
-        found.append(Change(int(number), state == "done", differences_of(group[1:])))
+    """The changes that `log` prints, each in front of what it changed."""
+    found: List[Change] = []
+    for said in objects(printed):
+        if "number" in said:
+            found.append(Change(said["number"], said["state"] == "done", []))
+        else:
+            found[-1].differences.append(difference(said))
     return found
 
 
 def summary(printed: bytes) -> Summary:
     """What `check` prints."""
-    return Summary(*map(int, matched(SUMMARY, printed.decode("ascii")).groups()))
+    said = objects(printed)[0]
+    return Summary(
+        said["block"], said["count"], said["free"], said["directories"], said["files"], said["free_bytes"], said["version"], limits(said),
+    )
+
+
+def line(said: Dict[str, Any]) -> str:
+    """What an object says of a fault."""
+    return f"{said['of']}: {said['text']}" if "of" in said else str(said["text"])
 
 
 def fault(complained: bytes) -> Tuple[Optional[int], Optional[str], List[str]]:
     """The number and the name of the fault that is told, where one is, and the lines that say more."""
-    lines = [line.replace("lfsed: ", "", 1) for line in complained.decode("utf-8", "replace").splitlines()]
-    for at, line in enumerate(lines):
-        found = FAULT.fullmatch(line)
-        if found:
-            numbers = [found[3]] if found[3] else []
-            return int(found[1]), found[2], numbers + lines[at + 1:]
-    return None, None, lines
+    number, name, lines = None, None, []
+    for said in objects(complained):
+        if "fault" in said:
+            number, name = said["fault"], said["name"]
+            lines += [f"need {said['need']} free {said['free']}"] if "need" in said else []
+        else:
+            lines += line(said).splitlines()
+    return number, name, lines

@@ -18,7 +18,7 @@ def is_told(complained, complaint):
     tests/told.py has."""
     more = complained.removeprefix(complaint)
     return complained == complaint or bool(complaint) and complained != more and all(
-        line.startswith(("lfsed: a.img: ", "lfsed: a.img.lfsj ")) for line in more.splitlines())
+        line.startswith(("lfsed: a.img: ", "lfsed: a.img.lfsj: ")) for line in more.splitlines())
 
 
 def spread(place, chance, sizes):

@@ -79,9 +79,9 @@ crc_bits-shifted a =
 pub crc_bits-split : (x : ℕ) → crc_bits x ≡ bit_xor (crc_bits (x % 256)) (x / 256)
 crc_bits-split x =
     let low : x % 256 < 2 ^ 8 = omega arith in
-    let whole : (x / 256) * 2 ^ 8 + x % 256 ≡ x = omega arith in
+    let complete : (x / 256) * 2 ^ 8 + x % 256 ≡ x = omega arith in
     let shift : (x / 256) * 2 ^ 8 ≡ 256 * (x / 256) = omega arith in
-    let parts : bit_xor ((x / 256) * 2 ^ 8) (x % 256) ≡ x = xor_shifted (x / 256) 8 (x % 256) low ∙ whole in
+    let parts : bit_xor ((x / 256) * 2 ^ 8) (x % 256) ≡ x = xor_shifted (x / 256) 8 (x % 256) low ∙ complete in
     ap crc_bits (sym parts)
     ∙ crc_bits-xor ((x / 256) * 2 ^ 8) (x % 256)
     ∙ ap (λ y. bit_xor y (crc_bits (x % 256))) (ap crc_bits shift ∙ crc_bits-shifted (x / 256))

@@ -52,12 +52,12 @@ flip-rising (c ∷ cs) rising = (
   flip-rising cs rising.1,
 )
 
-pub flip-whole : (size : ℕ) (c : Change) → IsBlockChange size c → IsBlockChange size (flip c)
-flip-whole size c whole = record { old = whole.new; new = whole.old; old_bytes = whole.new_bytes; new_bytes = whole.old_bytes }
+pub flip-complete : (size : ℕ) (c : Change) → IsBlockChange size c → IsBlockChange size (flip c)
+flip-complete size c complete = record { old = complete.new; new = complete.old; old_bytes = complete.new_bytes; new_bytes = complete.old_bytes }
 
 flip-change : (size before after : ℕ) (c : Change) → IsChangeIn size before after c → IsChangeIn size after before (flip c)
 flip-change size before after c is =
-    record { whole = flip-whole size c is.whole; within = omega (arith, is.within); old = is.new; new = is.old }
+    record { complete = flip-complete size c is.complete; within = omega (arith, is.within); old = is.new; new = is.old }
 
 pub flipped-twice : FlippedTwice
 flipped-twice p =
@@ -193,7 +193,7 @@ wide-is_disk p d disk is size =
 wide-fits : (p : ChangeSet) (d : Disk) → IsPatch p → p.size ≡ d.size → AllByRecursion (FitsDisk (resized (wide p) d)) p.changes
 wide-fits p d is size =
     each-one (IsChangeIn p.size p.before p.after) (FitsDisk (resized (wide p) d))
-    (λ c one. (one.within, subst (λ (k : ℕ). IsBlockChange k c) size one.whole)) p.changes is.each
+    (λ c one. (one.within, subst (λ (k : ℕ). IsBlockChange k c) size one.complete)) p.changes is.each
 
 -- the disk with that many blocks and the changes made
 abbrev widened : ChangeSet → Disk → Disk
@@ -303,7 +303,7 @@ kept-blocks p d n disk is agrees keeps =
 kept-change : (size before after : ℕ) → before ≤ after → (c : Change) → IsChangeIn size before after c → IsChangeIn size after after c
 kept-change size before after rise c one =
     record {
-      whole = one.whole;
+      complete = one.complete;
       within = omega (arith, rise, one.within);
       old = λ behind. one.old (omega (arith, rise, behind));
       new = one.new;

@@ -33,10 +33,10 @@ pub slice-before : (size at from : ℕ) (bytes more : List ℕ) → from + size 
 slice-before size at from bytes more le within =
     let front_len : length (take at bytes) ≡ at = omega (arith, length-take at bytes) in
     let left_len : length (drop from (take at bytes)) ≡ at - from = omega (arith, length-drop from (take at bytes), front_len) in
-    let whole : at ≡ from + (at - from) = omega arith in
+    let complete : at ≡ from + (at - from) = omega arith in
     ap (take size) (drop-append-le from (take at bytes) more (omega (arith, front_len)))
     ∙ take-append-le size (drop from (take at bytes)) more (omega (arith, left_len))
-    ∙ ap (λ (k : ℕ). take size (drop from (take k bytes))) whole
+    ∙ ap (λ (k : ℕ). take size (drop from (take k bytes))) complete
     ∙ ap (take size) (drop-take from (at - from) bytes)
     ∙ take-take size (at - from) (drop from bytes) (omega arith)
 

@@ -67,8 +67,8 @@ block-added d count n disk within behind =
     let from : ℕ = n * d.size - length d.bytes in
     let ends : (n + 1) * d.size ≤ count * d.size = mul-le-mul_right d.size (omega arith) in
     let starts : d.count * d.size ≤ n * d.size = mul-le-mul_right d.size behind in
-    let whole : take most d.bytes ≡ d.bytes = take_all most d.bytes (omega (arith, ends, starts, disk.len)) in
-    ap (λ (xs : List ℕ). take d.size (drop (n * d.size) (xs ++ replicate gap 0xff))) whole
+    let complete : take most d.bytes ≡ d.bytes = take_all most d.bytes (omega (arith, ends, starts, disk.len)) in
+    ap (λ (xs : List ℕ). take d.size (drop (n * d.size) (xs ++ replicate gap 0xff))) complete
     ∙ ap (take d.size) (drop-past d.bytes (replicate gap 0xff) (n * d.size) (omega (arith, starts, disk.len)))
     ∙ ap (take d.size) (drop-replicate from gap 0xff)
     ∙ take-replicate d.size (gap - from) 0xff (omega (arith, ends, starts, disk.len))
@@ -95,10 +95,10 @@ resized-blocks d count n disk =
 pub resized-stays : ResizedStays
 resized-stays d disk =
     let most : ℕ = d.count * d.size in
-    let whole : take most d.bytes ≡ d.bytes = take_all most d.bytes (omega (arith, disk.len)) in
+    let complete : take most d.bytes ≡ d.bytes = take_all most d.bytes (omega (arith, disk.len)) in
     let none : most - length d.bytes ≡ 0 = omega (arith, disk.len) in
     let bytes : take most d.bytes ++ replicate (most - length d.bytes) 0xff ≡ d.bytes =
-    ap (λ (xs : List ℕ). xs ++ replicate (most - length d.bytes) 0xff) whole
+    ap (λ (xs : List ℕ). xs ++ replicate (most - length d.bytes) 0xff) complete
     ∙ ap (λ (k : ℕ). d.bytes ++ replicate k 0xff) none
     ∙ append-nil d.bytes in
     ap (λ (bs : List ℕ). record { size = d.size; count = d.count; bytes = bs }) bytes

@@ -15,7 +15,7 @@ use Rattle.lfs_block.proofs.PutLemmas.{put-is_disk}
 -- the first i of changes that fit are made: what is left of them makes the whole change
 pub record IsChangedTo (cs : List Change) (i : ℕ) (first now : Disk) : Type 0 where
   pub fits : AllByRecursion (FitsDisk first) cs
-  pub whole : put_all (drop i cs) now ≡ put_all cs first
+  pub complete : put_all (drop i cs) now ≡ put_all cs first
   pub disk : IsDiskAs first now
 
 -- c is the change at i
@@ -37,7 +37,7 @@ at-flipped cs i c at =
     }
 
 pub changed-none : (cs : List Change) (d : Disk) → IsDisk d → AllByRecursion (FitsDisk d) cs → IsChangedTo cs 0 d d
-changed-none cs d disk fits = record { fits = fits; whole = refl; disk = record { disk = disk; size = refl; count = refl } }
+changed-none cs d disk fits = record { fits = fits; complete = refl; disk = record { disk = disk; size = refl; count = refl } }
 
 next-fits : (cs : List Change) (i : ℕ) (c : Change) (first now : Disk) → IsChangedTo cs i first now → IsAt cs i c → FitsDisk now c
 next-fits cs i c first now so_far at =
@@ -67,7 +67,7 @@ changed-next cs i c first now next so_far at put_is =
     let fit : FitsDisk now c = next-fits cs i c first now so_far at in
     record {
       fits = so_far.fits;
-      whole = ap (put_all rest) put_is ∙ ap (λ (es : List Change). put_all es now) (sym left) ∙ so_far.whole;
+      complete = ap (put_all rest) put_is ∙ ap (λ (es : List Change). put_all es now) (sym left) ∙ so_far.complete;
       disk = subst (IsDiskAs first) (sym put_is) (record {
         disk = put-is_disk now c.number c.new so_far.disk.disk fit.0 fit.1.new fit.1.new_bytes;
         size = so_far.disk.size;
@@ -76,7 +76,7 @@ changed-next cs i c first now next so_far at put_is =
     }
 
 pub changed-all : (cs : List Change) (i : ℕ) (first now : Disk) → length cs ≤ i → IsChangedTo cs i first now → now ≡ put_all cs first
-changed-all cs i first now done so_far = ap (λ (es : List Change). put_all es now) (sym (drop_of_length-le cs done)) ∙ so_far.whole
+changed-all cs i first now done so_far = ap (λ (es : List Change). put_all es now) (sym (drop_of_length-le cs done)) ∙ so_far.complete
 
 -- ---- a patch that lengthens: q is how its fields are seen
 

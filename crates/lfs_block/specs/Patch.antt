@@ -16,7 +16,7 @@ pub record ChangeSet : Type 0 where
 -- A change of a block that is there before or after. A block that isn't there before is erased before, one that isn't there after is
 -- erased after.
 pub record IsChangeIn (size before after : ℕ) (c : Change) : Type 0 where
-  pub whole : IsBlockChange size c
+  pub complete : IsBlockChange size c
   pub within : c.number < max before after
   pub old : before ≤ c.number → c.old ≡ erased_block size
   pub new : after ≤ c.number → c.new ≡ erased_block size

@@ -20,7 +20,7 @@ pub trait Blocks {
     fn count(&self) -> u32
         ensures { result ≡ (disk self.now).count };
 
-    /// Block `n`. The caller owes that there is one.
+    /// Block `n`.
     fn block(&self, n: u32) -> &[u8]
         requires { n < (disk self.now).count }
         ensures { result.now ≡ block_of (disk self.now) n };

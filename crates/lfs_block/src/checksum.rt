@@ -88,7 +88,7 @@ fn add_pairs(checksum: u32, pairs: &[[[u8; 8]; 2]]) -> u32
 }
 
 /// The checksum of `bytes` from the start value `start`: a CRC-32 with the polynomial 0x04c11db7, reflected, with no
-/// final inversion. A commit starts at 0xffffffff. Takes no memory.
+/// final inversion. A commit starts at 0xffffffff.
 ///
 /// Source: SPEC.md, "0x5xx CRC".
 pub fn crc32(start: u32, bytes: &[u8]) -> u32

@@ -41,7 +41,7 @@ impl Image {
 
     /// The image of `bytes`, cut into blocks of `size` bytes. A refusal hands the bytes back: `BadGeometry` where the
     /// size is out of its limit, then `ImageLength` where the length is no multiple of it, then `BadGeometry` where the
-    /// number of blocks or the length is out of its limit. Takes no memory.
+    /// number of blocks or the length is out of its limit.
     pub fn new(bytes: Vec<u8>, size: u32) -> Result<Image, (ImageFault, Vec<u8>)>
         ensures disk { IfOk result (λ image. IsDisk image.disk) }
         ensures size { IfOk result (λ image. image.disk.size ≡ size) }
@@ -70,9 +70,7 @@ impl Image {
         })
     }
 
-    /// The number of blocks up to which the image is lengthened without memory: at least as many as it has. Takes no memory.
-    ///
-    /// Source: own.
+    /// The number of blocks up to which the image is lengthened without memory: at least as many as it has.
     pub fn room(&self) -> u32
         ensures value { result ≡ self.now.room }
         ensures medium { IsMedium self.now }
@@ -80,10 +78,7 @@ impl Image {
         self.room
     }
 
-    /// Makes room for `count` blocks, and takes no memory beyond theirs. False where memory is refused, which changes nothing. The
-    /// caller owes that an image of this block size may have so many.
-    ///
-    /// Source: own.
+    /// Makes room for `count` blocks, and takes no memory beyond theirs. False where memory is refused, which changes nothing.
     pub fn reserve(&mut self, count: u32) -> bool
         requires { IsGeometry self.old.disk.size count }
         ensures { Reserves count result self.old self.new }
@@ -99,8 +94,7 @@ impl Image {
         true
     }
 
-    /// Cuts the image to `count` blocks, or lengthens it by erased ones. The caller owes that an image of this block size may
-    /// have so many, and the room for them. Takes no memory.
+    /// Cuts the image to `count` blocks, or lengthens it by erased ones.
     pub(crate) fn resize(&mut self, count: u32)
         requires geometry { IsGeometry self.old.disk.size count }
         requires room { count ≤ self.old.room }
@@ -125,11 +119,10 @@ impl Image {
         start..start + self.size as usize
     }
 
-    /// Writes `bytes` over block `n`. The caller owes that there is such a block, and as many bytes as it has. Takes no
-    /// memory.
+    /// Writes `bytes` over block `n`.
     pub fn write_block(&mut self, n: u32, bytes: &[u8])
         requires within { n < self.old.disk.count }
-        requires whole { length bytes.now ≡ self.old.disk.size }
+        requires complete { length bytes.now ≡ self.old.disk.size }
         ensures disk { self.new.disk ≡ put n bytes.now self.old.disk }
         ensures room { self.new.room ≡ self.old.room }
     {
@@ -137,7 +130,7 @@ impl Image {
         self.bytes[place].copy_from_slice(bytes);
     }
 
-    /// The image's bytes. Takes no memory.
+    /// The image's bytes.
     pub fn into_bytes(self) -> Vec<u8>
         ensures { result.items ≡ self.disk.bytes }
     {

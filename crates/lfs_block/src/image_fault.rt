@@ -7,8 +7,6 @@ use std::fmt;
 use thiserror::Error;
 
 /// Why bytes are no image of a block size.
-///
-/// Source: own.
 #[derive(Clone, Copy, Debug, PartialEq, Eq, Error)]
 pub enum ImageFault {
     /// The length is no multiple of the block size.

@@ -5,8 +5,6 @@ use std::marker::Model;
 
 /// An image with more blocks behind its end, each of them erased, without a copy. Its meaning is the lengthened disk; with the number
 /// of blocks that the image has it is the image.
-///
-/// Source: own.
 #[derive(Drop)]
 pub struct Lengthened<'a, B: Blocks> {
     base: &'a B,
@@ -30,8 +28,7 @@ impl<'a, B: Blocks> Lengthened<'a, B> {
     ghost use Rattle.lfs_block.specs.Disk.{resized};
     ghost use Rattle.lfs_block.specs.Lengthened.{Lengthens};
 
-    /// The image with `count` blocks. `erased` is lent for those that are added. The caller owes that an image of this block size may
-    /// have so many, that it has no more, and that `erased` is an erased block of that size. Takes no memory.
+    /// The image with `count` blocks. `erased` is lent for those that are added.
     pub fn of(base: &'a B, count: u32, erased: &'a [u8]) -> Lengthened<'a, B>
         requires { Lengthens (B.disk base.now) count erased.now }
         ensures { result ≡ resized count (B.disk base.now) }

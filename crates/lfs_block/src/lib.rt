@@ -20,7 +20,9 @@ mod word;
 
 pub use blocks::Blocks;
 pub use checksum::crc32;
-pub use geometry::{BLOCK_SIZE_STEP, MAX_IMAGE_LENGTH, geometry_ok};
+pub use geometry::{
+    BLOCK_SIZE_STEP, MAX_BLOCK_COUNT, MAX_BLOCK_SIZE, MAX_IMAGE_LENGTH, geometry_ok,
+};
 pub use image::Image;
 pub use image_fault::ImageFault;
 pub use lengthened::Lengthened;

@@ -8,8 +8,6 @@ use std::fmt;
 use thiserror::Error;
 
 /// Why an image does not mount. Each but `Memory` names a cause that the image has.
-///
-/// Source: own.
 #[derive(Clone, Copy, Debug, PartialEq, Eq, Error)]
 pub enum MountFault {
     /// Neither block of a pair of the thread holds a commit.

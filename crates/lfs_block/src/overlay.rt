@@ -9,8 +9,6 @@ use std::marker::Model;
 /// An image as a patch leaves it, or as it was before the patch, without a copy: the blocks that the patch names have the
 /// patch's bytes, those that it adds otherwise are erased, and all others are those of the image that it lies on. Its meaning
 /// is the disk that the patch makes.
-///
-/// Source: own.
 #[derive(Drop)]
 pub struct Overlay<'a, B: Blocks> {
     base: &'a B,
@@ -35,8 +33,7 @@ impl<'a, B: Blocks> Overlay<'a, B> {
     ghost use Rattle.lfs_block.specs.Overlay.{IsOverlay};
     ghost use Rattle.lfs_block.specs.Patch.{applied, reverted};
 
-    /// The image as the patch leaves it. `erased` is lent for the blocks that are added. The caller owes that the patch is one
-    /// of blocks of the image's size, and that `erased` is an erased block of that size. Takes no memory.
+    /// The image as the patch leaves it. `erased` is lent for the blocks that are added.
     pub fn after(base: &'a B, patch: &'a Patch, erased: &'a [u8]) -> Overlay<'a, B>
         requires { IsOverlay patch.now erased.now (B.disk base.now) }
         ensures { result ≡ applied patch.now (B.disk base.now) }
@@ -49,8 +46,7 @@ impl<'a, B: Blocks> Overlay<'a, B> {
         }
     }
 
-    /// The image as it was before the patch. `erased` is lent for blocks behind the image's end. The caller owes that the
-    /// patch is one of blocks of the image's size, and that `erased` is an erased block of that size. Takes no memory.
+    /// The image as it was before the patch. `erased` is lent for blocks behind the image's end.
     pub fn before(base: &'a B, patch: &'a Patch, erased: &'a [u8]) -> Overlay<'a, B>
         requires { IsOverlay patch.now erased.now (B.disk base.now) }
         ensures { result ≡ reverted patch.now (B.disk base.now) }

@@ -21,8 +21,6 @@ fn finds(image: &Image, number: u32, bytes: &[u8]) -> bool
 /// before and after, and the number of the image's blocks before and after, of which the second isn't less. A block that is
 /// written with the bytes that it has is one of them. A block that is added is erased before; where it isn't one of them, it
 /// stays so.
-///
-/// Source: own.
 #[derive(Drop)]
 pub struct Patch {
     size: u32,
@@ -51,9 +49,6 @@ impl Patch {
     ghost use Rattle.lfs_block.specs.PatchLaws.{IsDiskOf};
 
     /// The patch of `records`, of an image whose blocks have `size` bytes, and that has `before` blocks before and `after` then.
-    /// The caller owes its form: at least one record, the numbers strictly rising and below `after`, `size` bytes before and
-    /// after in each, which are erased before in a block from `before` on; both counts within the limits of images, and
-    /// `before` at most `after`. Takes no memory.
     pub fn of(size: u32, before: u32, after: u32, records: Vec<Record>) -> Patch
         requires { IsGrowth (record { size = size; before = before; after = after; changes = records.items }) }
         ensures { result ≡ record { size = size; before = before; after = after; changes = records.items } }
@@ -66,28 +61,28 @@ impl Patch {
         }
     }
 
-    /// The size of the image's blocks, in bytes. Takes no memory.
+    /// The size of the image's blocks, in bytes.
     pub fn size(&self) -> u32
         ensures value { result ≡ self.now.size }
     {
         self.size
     }
 
-    /// The number of the image's blocks before. Takes no memory.
+    /// The number of the image's blocks before.
     pub fn before(&self) -> u32
         ensures value { result ≡ self.now.before }
     {
         self.before
     }
 
-    /// The number of the image's blocks after. Takes no memory.
+    /// The number of the image's blocks after.
     pub fn after(&self) -> u32
         ensures value { result ≡ self.now.after }
     {
         self.after
     }
 
-    /// The number of the image's blocks on one side of the patch. Takes no memory.
+    /// The number of the image's blocks on one side of the patch.
     pub(crate) fn count(&self, side: Side) -> u32
         ensures { result ≡ count_of side self.now }
     {
@@ -97,7 +92,7 @@ impl Patch {
         }
     }
 
-    /// The changes, rising by block number. Takes no memory.
+    /// The changes, rising by block number.
     pub fn records(&self) -> &[Record]
         ensures growth { IsGrowth self.now }
         ensures changes { result.now ≡ self.now.changes }
@@ -122,7 +117,7 @@ impl Patch {
             .all(|record| finds(image, record.number, record.side(side)))
     }
 
-    /// Whether block `n` of the image is erased, or the patch names it. The caller owes that there is such a block.
+    /// Whether block `n` of the image is erased, or the patch names it.
     fn names_or_finds_erased(&self, image: &Image, n: u32) -> bool
         requires { n < image.now.disk.count }
         ensures { IsTrue result ↔ (change_of n self.now.changes ≡ None → block_of image.now.disk n ≡ erased_block image.now.disk.size) }
@@ -131,8 +126,7 @@ impl Patch {
         record_of(&self.records, n).is_some() || is_erased(image.block(n))
     }
 
-    /// Whether each block that the patch adds is erased, or one that the patch names. The caller owes that the image has as
-    /// many blocks as after.
+    /// Whether each block that the patch adds is erased, or one that the patch names.
     fn leaves_erased(&self, image: &Image) -> bool
         requires { self.now.after ≡ image.now.disk.count }
         ensures { IsTrue result ↔ LeavesErased self.now image.now.disk }
@@ -146,7 +140,7 @@ impl Patch {
     }
 
     /// Whether the image is what the patch was made of: its blocks have the patch's size, and are as many as before, and each
-    /// of them that the patch names holds the bytes from before. Takes no memory.
+    /// of them that the patch names holds the bytes from before.
     pub fn agrees_old(&self, image: &Image) -> bool
         ensures { IsTrue result ↔ AgreesOld self.now image.now.disk }
     {
@@ -154,7 +148,7 @@ impl Patch {
     }
 
     /// Whether the image is what the patch makes: its blocks have the patch's size, and are as many as after, each of them
-    /// that the patch names holds the bytes from after, and each that it adds and doesn't name is erased. Takes no memory.
+    /// that the patch names holds the bytes from after, and each that it adds and doesn't name is erased.
     pub fn agrees_new(&self, image: &Image) -> bool
         ensures { IsTrue result ↔ AgreesNew self.now image.now.disk }
     {
@@ -164,7 +158,7 @@ impl Patch {
     }
 
     /// Lengthens the image by erased blocks to as many as after, and writes the bytes from after into each block that the
-    /// patch names. The caller owes that the image is what the patch was made of, and the room for it. Takes no memory.
+    /// patch names.
     pub fn apply(&self, image: &mut Image)
         requires agrees { AgreesOld self.now image.old.disk }
         requires room { self.now.after ≤ image.old.room }
@@ -179,8 +173,7 @@ impl Patch {
         }
     }
 
-    /// Writes the bytes from before into each block that the patch names, and cuts the image to as many blocks as before. The
-    /// caller owes that the image is what the patch makes. Takes no memory.
+    /// Writes the bytes from before into each block that the patch names, and cuts the image to as many blocks as before.
     pub fn revert(&self, image: &mut Image)
         requires { AgreesNew self.now image.old.disk }
         ensures reverted { image.new.disk ≡ reverted self.now image.old.disk }

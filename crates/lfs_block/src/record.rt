@@ -8,8 +8,6 @@ use crate::side::Side;
 use std::marker::Model;
 
 /// What one block holds before a command and after it.
-///
-/// Source: own.
 #[derive(Drop)]
 pub struct Record {
     /// The block's number.
@@ -32,7 +30,7 @@ impl Record {
     ghost use Rattle.std.specs.Prelude.{◌≡◌};
     ghost use Rattle.lfs_block.specs.Overlay.{side_of};
 
-    /// The block's bytes on one side of the change. Takes no memory.
+    /// The block's bytes on one side of the change.
     pub(crate) fn side(&self, side: Side) -> &[u8]
         ensures { result.now ≡ side_of side self.now }
     {
@@ -43,7 +41,7 @@ impl Record {
     }
 }
 
-/// The change of block `n` among changes whose numbers rise, where there is one. Takes no memory.
+/// The change of block `n` among changes whose numbers rise, where there is one.
 pub(crate) fn record_of(records: &[Record], n: u32) -> Option<&Record>
     requires { IsRising records.now }
     ensures { option_map (λ r. r.now) result ≡ change_of n records.now }

@@ -1,8 +1,6 @@
 //! The two sides of a change.
 
 /// Before a change, or after it.
-///
-/// Source: own.
 #[derive(Clone, Copy, PartialEq, Eq)]
 pub enum Side {
     /// Before it.

@@ -3,7 +3,7 @@ use Rattle.std.proofs.Common.{◌≡◌, ℕ, List, [], refl, sym, subst, ap, �
 use Rattle.lfs_block.specs.Disk.{Disk, IsDisk}
 use Rattle.lfs_block.specs.declared.mount_fault.MountFault.{MountFault}
 use Rattle.lfs_block.specs.declared.mount_fault.MountFault.TheVariants.{Memory as No_memory}
-use Rattle.lfs_book.specs.Book.{journal_bytes}
+use Rattle.lfs_journal.specs.Book.{journal_bytes}
 use Rattle.lfs_fs.specs.Cause.{HasCause}
 use Rattle.lfs_history.specs.History.{History, IsHistory, fresh_history}
 use Rattle.lfs_history.specs.Opening.{journal_of}

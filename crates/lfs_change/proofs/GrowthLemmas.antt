@@ -4,7 +4,7 @@ use Rattle.std.proofs.lemmas.List.{length-append}
 use Rattle.std.proofs.lemmas.Nat.{from_le_bytes-to_le_bytes_4}
 use Rattle.lfs_block.specs.Disk.{Disk, image_of}
 use Rattle.lfs_block.specs.Patch.{ChangeSet}
-use Rattle.lfs_book.specs.Book.{Book, IsVersionOf, bytes_in, journal_bytes, respelling}
+use Rattle.lfs_journal.specs.Book.{Book, IsVersionOf, bytes_in, journal_bytes, respelling}
 use Rattle.lfs_fs.specs.Holds.{Holds}
 use Rattle.lfs_fs.specs.Reading.{reading_of}
 use Rattle.lfs_command.specs.Need.{need}

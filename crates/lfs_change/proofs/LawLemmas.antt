@@ -4,7 +4,7 @@ use Rattle.lfs_block.specs.Disk.{Disk, IsDisk, image_of}
 use Rattle.lfs_fs.specs.Reading.{reading_of}
 use Rattle.lfs_fs.specs.Holds.{Holds}
 use Rattle.lfs_fs.specs.Mounts.{Mounts}
-use Rattle.lfs_book.specs.Book.{Book, bytes_in, journal_bytes}
+use Rattle.lfs_journal.specs.Book.{Book, bytes_in, journal_bytes}
 use Rattle.lfs_command.specs.Command.{Asked}
 use Rattle.lfs_history.specs.Batch.{TakesAll}
 use Rattle.lfs_history.specs.History.{History, IsHistory}

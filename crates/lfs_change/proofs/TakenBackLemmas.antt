@@ -6,7 +6,7 @@ use Rattle.std.specs.List.{AllByRecursion}
 use Rattle.lfs_history.specs.Batch.{StopsAt, TakesAll}
 use Rattle.lfs_history.specs.declared.step_fault.StepFault.{StepFault}
 use Rattle.lfs_history.proofs.RepeatLemmas.{one_more}
-use Rattle.lfs_journal.proofs.CountLemmas.{past_left}
+use Rattle.lfs_session.proofs.CountLemmas.{past_left}
 use Rattle.lfs_history.specs.History.{History}
 use Rattle.lfs_history.specs.Moves.{Undoes, Repeats}
 use Rattle.lfs_history.specs.Taking.{Move, Do, Together, Undo, Redo, Forget, Takes}

@@ -2,7 +2,7 @@
 use Rattle.std.proofs.Common.{◌≡◌, ◌≤◌, ◌+◌, ◌*◌, ℕ, List, [], ◌∷◌, length, Option, None, ap, refl, sym, subst, ◌∙◌, arith}
 use Rattle.lfs_block.specs.Disk.{Disk, image_of}
 use Rattle.lfs_block.specs.Patch.{ChangeSet}
-use Rattle.lfs_book.specs.Book.{journal_bytes, respelling}
+use Rattle.lfs_journal.specs.Book.{journal_bytes, respelling}
 use Rattle.lfs_command.specs.Command.{Asked}
 use Rattle.lfs_fs.specs.Holds.{Holds}
 use Rattle.lfs_fs.specs.Mounts.{Mounts}

@@ -5,7 +5,7 @@ use Rattle.lfs_block.specs.ImageFault.{IsNoImage}
 use Rattle.lfs_fs.specs.Cause.{HasCause}
 use Rattle.lfs_command.specs.declared.refusal.Refusal.{Refusal}
 use Rattle.lfs_command.specs.declared.refusal.Refusal.TheVariants.{Memory}
-use Rattle.lfs_book.specs.Book.{journal_bytes}
+use Rattle.lfs_journal.specs.Book.{journal_bytes}
 use Rattle.lfs_history.specs.declared.open_fault.OpenFault.{OpenFault}
 use Rattle.lfs_history.specs.declared.open_fault.OpenFault.TheVariants as opening
 use Rattle.lfs_history.specs.declared.step_fault.StepFault.{StepFault}

@@ -4,7 +4,7 @@ use Rattle.lfs_block.specs.Disk.{IsDisk, image_of}
 use Rattle.lfs_block.specs.ImageFault.{IsNoImage}
 use Rattle.lfs_fs.specs.Cause.{HasCause}
 use Rattle.lfs_command.specs.declared.refusal.Refusal.TheVariants.{Memory}
-use Rattle.lfs_book.specs.Book.{journal_bytes}
+use Rattle.lfs_journal.specs.Book.{journal_bytes}
 use Rattle.lfs_history.specs.History.{fresh_history}
 use Rattle.lfs_history.specs.Opening.{journal_of}
 use Rattle.lfs_request.specs.declared.fault.Fault.{Fault}

@@ -7,7 +7,7 @@ use Rattle.lfs_fs.specs.Tree.{Node}
 use Rattle.lfs_fs.specs.Reading.{reading_of}
 use Rattle.lfs_fs.specs.Holds.{Holds}
 use Rattle.lfs_fs.specs.Mounts.{Mounts}
-use Rattle.lfs_book.specs.Book.{journal_bytes, respelling}
+use Rattle.lfs_journal.specs.Book.{journal_bytes, respelling}
 use Rattle.lfs_command.specs.Command.{Asked, Command, Spells}
 use Rattle.lfs_command.specs.Need.{need}
 use Rattle.lfs_history.specs.History.{History}

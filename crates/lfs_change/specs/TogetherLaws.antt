@@ -2,7 +2,7 @@
 use Rattle.std.specs.Prelude.{◌≡◌, ◌≤◌, ◌+◌, ◌*◌, ℕ, List, [], ◌∷◌, length, Option}
 use Rattle.lfs_block.specs.Disk.{image_of}
 use Rattle.lfs_block.specs.Patch.{ChangeSet}
-use Rattle.lfs_book.specs.Book.{respelling}
+use Rattle.lfs_journal.specs.Book.{respelling}
 use Rattle.lfs_command.specs.Command.{Asked}
 use Rattle.lfs_fs.specs.Holds.{Holds}
 use Rattle.lfs_fs.specs.Mounts.{Mounts}

@@ -13,8 +13,8 @@ use crate::outcomes::{outcome_of, outcome_of_stop};
 use lfs_block::Image;
 use lfs_command::Refusal;
 use lfs_history::Move;
-use lfs_journal::Session;
 use lfs_request::{Fault, Outcome};
+use lfs_session::Session;
 use std::alloc::Global;
 
 /// Takes steps, as `changed` does, beside a copy of the image.
@@ -41,8 +41,7 @@ pub(crate) fn changed_beside(
     }
 }
 
-/// Takes steps on the history of an image and of its journal, all of them or none. The caller owes the image's bytes beside it, which are
-/// handed back with a fault: what steps drop of the history can't be gone back by.
+/// Takes steps on the history of an image and of its journal, all of them or none.
 fn image_changed(
     alloc: Global,
     steps: &[Move<'_>],

@@ -15,12 +15,9 @@ use lfs_request::Outcome;
 use std::alloc::Global;
 
 /// Takes steps, one after another, on the history of bytes that are an image, with blocks of `size` bytes, and of its journal: all of
-/// them or none. The journal is spelled in version 2 then, whichever version it was read in. The caller owes that what each step keeps is
-/// 1 to 1,000 images. With a fault the image and the journal are those that were handed in, and where a step is refused the outcome says
-/// how many are done before it. Takes memory, for a copy of the image too where a step before the last is anything else than a command
-/// that keeps all earlier images.
-///
-/// Source: own.
+/// them or none. The journal is spelled in version 2 then, whichever version it was read in. With a fault the image and the journal are
+/// those that were handed in, and where a step is refused the outcome says how many are done before it. Takes memory, for a copy of the
+/// image too where a step before the last is anything else than a command that keeps all earlier images.
 pub fn changed(
     alloc: Global,
     steps: &[Move<'_>],

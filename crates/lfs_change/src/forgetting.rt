@@ -7,14 +7,12 @@ ghost use Rattle.lfs_change.specs.Forgetting.{AnswersForgetting};
 
 use crate::outcomes::outcome_of;
 use lfs_block::Image;
-use lfs_journal::{Session, Unmounted};
 use lfs_request::{Fault, Outcome};
+use lfs_session::{Session, Unmounted};
 use std::alloc::Global;
 
 /// Forgets all but bytes that are an image, with blocks of `size` bytes: where it mounts it gets a journal without changes. The journal
 /// isn't read, whatever it is; with a fault it is answered as it was handed in, and so is the image. Takes memory.
-///
-/// Source: own.
 pub fn forgotten(alloc: Global, size: u32, image: Vec<u8>, journal: Vec<u8>) -> Outcome
     ensures answers { AnswersForgetting result.fault size image.items journal.items result }
     ensures failed { blames_output result.fault ≡ false }

@@ -15,12 +15,11 @@ use crate::opening::opened;
 use crate::outcomes::{image_bytes, outcome_of, outcome_of_stop};
 use lfs_block::Image;
 use lfs_history::Move;
-use lfs_journal::{Refused, Session, Stopped};
 use lfs_request::{Fault, Outcome, Place};
+use lfs_session::{Refused, Session, Stopped};
 use std::alloc::Global;
 
-/// Takes steps, as `changed` does, in the image that is handed in. The caller owes that all but the last are commands that keep all
-/// earlier images.
+/// Takes steps, as `changed` does, in the image that is handed in.
 pub(crate) fn changed_in_place(
     alloc: Global,
     steps: &[Move<'_>],
@@ -103,7 +102,7 @@ fn taken_in(alloc: Global, steps: &[Move<'_>], session: &mut Session) -> Result<
     Ok(())
 }
 
-/// Takes the latest changes back, so many of them. The caller owes that there are as many. Takes no memory.
+/// Takes the latest changes back, so many of them.
 fn take_back_all(session: &mut Session, many: usize)
     requires { many ≤ length session.old.past }
     ensures { Repeats Undoes many session.old session.new }

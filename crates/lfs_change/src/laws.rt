@@ -8,9 +8,7 @@ use lfs_history::{
     runs_keep_histories, saved_histories_open, steps_keep_size, undo_is_exact,
 };
 
-/// A law: the image and the journal that steps leave denote the history that they leave. Takes no memory.
-///
-/// Source: own.
+/// A law: the image and the journal that steps leave denote the history that they leave.
 pub fn changed_bytes_are_denoted()
     ensures { ChangedBytesAreDenoted }
 {
@@ -20,9 +18,7 @@ pub fn changed_bytes_are_denoted()
 }
 
 /// A law: bytes that a command changed are an image that mounts to the command's equation of the tree of the image before,
-/// with the same size and limits, and with as many blocks as the command says. Takes no memory.
-///
-/// Source: own.
+/// with the same size and limits, and with as many blocks as the command says.
 pub fn changed_bytes_are_equations()
     ensures { ChangedBytesAreEquations }
 {
@@ -30,10 +26,7 @@ pub fn changed_bytes_are_equations()
     commands_push_equations();
 }
 
-/// A law: what a command did is undone byte for byte, by the journal that it left, however many images of the past it keeps. Takes no
-/// memory.
-///
-/// Source: own.
+/// A law: what a command did is undone byte for byte, by the journal that it left, however many images of the past it keeps.
 pub fn undone_bytes_stand_again()
     ensures { UndoneBytesStandAgain }
 {
@@ -46,11 +39,9 @@ pub fn undone_bytes_stand_again()
 /// the command needs on the image's volume and two more, the block's number, its bytes before and its bytes after; than one of version
 /// 1 also by two numbers for each change that is kept (`whole`). A journal without bytes counts as one without changes. No more than
 /// that is added even to the journal of nothing but the changes that are kept: those that were undone aren't, nor those that the
-/// command drops (`kept`). Takes no memory.
-///
-/// Source: own.
+/// command drops (`kept`).
 pub fn journals_of_bytes_grow_by_the_need()
-    ensures whole { JournalsOfBytesGrowByTheNeed }
+    ensures complete { JournalsOfBytesGrowByTheNeed }
     ensures kept { JournalsOfBytesGrowOnTheKept }
 {
     journals_grow_by_the_need();
@@ -58,11 +49,8 @@ pub fn journals_of_bytes_grow_by_the_need()
 
 /// A law: bytes that several commands changed as one change are an image that mounts to their equations of the tree of the image before,
 /// one after another (`equations`). One undo takes all of it back byte for byte, by the journal that they left (`undone`). That is longer
-/// than the one before by no more than three numbers and, for each block that a command needs, and two more each, the block's number,
-/// its bytes before and its bytes after; than one of version 1 also by two numbers for each change that is kept (`growth`). Takes no
-/// memory.
-///
-/// Source: own.
+/// than the one before by no more than three numbers and, for each block that a command needs, and two more each, the block's number, its
+/// bytes before and its bytes after; than one of version 1 also by two numbers for each change that is kept (`growth`).
 pub fn bytes_are_changed_together()
     ensures equations { BytesAreChangedTogether }
     ensures undone { OneUndoTakesAllBack }

@@ -5,7 +5,7 @@ ghost use Rattle.lfs_change.specs.Change.{DenotesOn, RefusesDenoting};
 
 use lfs_block::Image;
 use lfs_history::OpenFault;
-use lfs_journal::{Refused, Session};
+use lfs_session::{Refused, Session};
 use std::alloc::Global;
 
 /// The session of an image and the bytes of its journal; without any, nothing was done to the image.

@@ -1,14 +1,14 @@
 //! The outcomes of sessions.
 
 ghost use Rattle.std.specs.Prelude.{◌≡◌, None, Some, false};
-ghost use Rattle.lfs_book.specs.Book.{journal_bytes};
+ghost use Rattle.lfs_journal.specs.Book.{journal_bytes};
 ghost use Rattle.lfs_history.specs.Opening.{journal_of};
 ghost use Rattle.lfs_change.specs.Change.{place_of};
 ghost use Rattle.lfs_request.specs.Fault.{blames_output, fault_of_step, status_of};
 
 use lfs_history::StepFault;
-use lfs_journal::{Session, Stopped};
 use lfs_request::{Fault, Outcome, Place};
+use lfs_session::{Session, Stopped};
 
 /// The bytes of a session's image.
 pub(crate) fn image_bytes(session: Session) -> Vec<u8>

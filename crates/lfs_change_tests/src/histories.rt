@@ -7,7 +7,7 @@ ghost use Rattle.lfs_history.specs.Taking.{KeepsInRange};
 use crate::images::{fresh, has_image, new_image, new_session, replies};
 use lfs_block::Image;
 use lfs_edit::{Asked, Command, Refusal};
-use lfs_journal::{Move, Session, StepFault, Stopped, run_steps};
+use lfs_session::{Move, Session, StepFault, Stopped, run_steps};
 use std::alloc::Global;
 
 // sets an attribute of the root, and keeps all of the past

@@ -3,7 +3,7 @@
 use crate::new_images::new_image_of;
 use lfs_block::{Blocks, Image, geometry_ok};
 use lfs_edit::Asked;
-use lfs_journal::{Session, StepFault};
+use lfs_session::{Session, StepFault};
 use std::alloc::Global;
 
 /// A new image of so many blocks of this size; none where no image has them.

@@ -7,7 +7,7 @@ use lfs_block::Image;
 use lfs_command::{Asked, Command, Refusal, by_names};
 use lfs_draft::{judge, leading_pair};
 use lfs_fs::{Outline, mount, outlines_are_sound};
-use lfs_journal::Session;
+use lfs_session::Session;
 use std::alloc::Global;
 
 // a directory, whose pair is {2,3}, and a file in it

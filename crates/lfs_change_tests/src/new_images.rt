@@ -9,10 +9,7 @@ use lfs_block::Image;
 use lfs_edit::format;
 use std::alloc::Global;
 
-/// A new image of so many blocks of this size; `None` where a growth of memory was refused. The caller owes a good
-/// geometry.
-///
-/// Source: own.
+/// A new image of so many blocks of this size; `None` where a growth of memory was refused.
 pub fn new_image_of(alloc: Global, size: u32, count: u32) -> Option<Image>
     requires { IsGeometry size count }
     ensures image { IfSome result (λ image. (image.disk.size ≡ size) × IsFormatted size count new_limits image.disk.bytes) }

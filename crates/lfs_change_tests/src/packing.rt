@@ -3,9 +3,10 @@
 use lfs_block::{Image, geometry_ok};
 use lfs_edit::Refusal;
 use lfs_fs::{Limits, Mounted, NEW_LIMITS, mount};
+use lfs_host::Out;
+use lfs_json::Form;
 use lfs_listing::send_listing;
 use lfs_pack::{PackRow, least_count, pack, pack_within};
-use lfs_sink::Out;
 use std::alloc::{AllocError, Global};
 
 // what the packed image lists
@@ -45,7 +46,7 @@ pub(crate) fn rows(attributes: &[(u8, Vec<u8>)]) -> [PackRow<'_>; 3] {
 fn lists(alloc: Global, mounted: &Mounted, listing: &str) -> bool {
     let mut text = Vec::new(alloc);
     let mut out = Out::new(&mut text);
-    let is_sent = send_listing(alloc, mounted.rows(), &[], &mut out).is_ok();
+    let is_sent = send_listing(alloc, Form::Text, mounted.rows(), &[], &mut out).is_ok();
     is_sent && text.as_slice() == listing.as_bytes()
 }
 

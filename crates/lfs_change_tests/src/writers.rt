@@ -1,6 +1,6 @@
 //! Writers that misbehave.
 
-use lfs_sink::{Out, Sink, send};
+use lfs_host::{Out, Sink, send};
 use std::alloc::Global;
 use std::io;
 use std::io::{ErrorKind, Write};
@@ -60,23 +60,23 @@ const ROWS: [Row; 8] = [
 ];
 
 /// Whether a text goes out whole or not, as it should, and the sink says so and why; and whether the writer fails then where it is flushed.
-fn goes_out(writer: &mut Scripted<'_>, whole: bool) -> bool {
+fn goes_out(writer: &mut Scripted<'_>, complete: bool) -> bool {
     let mut out = Out::new(writer);
-    send(&mut out, b"littlefs") == whole
-        && out.has_failed() != whole
-        && out.error().is_some() != whole
+    send(&mut out, b"littlefs") == complete
+        && out.has_failed() != complete
+        && out.error().is_some() != complete
         && !out.flush()
         && out.error().is_some()
 }
 
 /// Whether a writer that answers so gets what it should.
 fn is_written(alloc: Global, row: &Row) -> bool {
-    let (replies, whole, text) = row;
+    let (replies, complete, text) = row;
     let mut writer = Scripted {
         replies,
         written: Vec::new(alloc),
     };
-    goes_out(&mut writer, *whole) && writer.written.as_slice() == text.as_bytes()
+    goes_out(&mut writer, *complete) && writer.written.as_slice() == text.as_bytes()
 }
 
 #[test]

@@ -5,8 +5,8 @@ use Rattle.std.specs.Option.{option_map}
 use Rattle.std.proofs.lemmas.Option.{none-some}
 use Rattle.lfs_meta.specs.Name.{Name}
 use Rattle.lfs_fs.specs.Path.{Path}
-use Rattle.lfs_command.specs.Home.{last_name}
-use Rattle.lfs_command.specs.Home.{split_last, behind_name}
+use Rattle.lfs_command.specs.Parent.{last_name}
+use Rattle.lfs_command.specs.Parent.{split_last, behind_name}
 
 last_later : (n m : Name) (ns : Path) → last_name (n ∷ m ∷ ns) ≡ last_name (m ∷ ns)
 last_later n m ns = by (split_last (m ∷ ns)) refl

@@ -10,7 +10,7 @@ use Rattle.lfs_fs.specs.Tree.{entry_at}
 use Rattle.lfs_command.specs.ThreadEdit.{link, unlink, change, add_after, drop_directory, touch_first}
 use Rattle.lfs_command.specs.Command.{Command, Mkdir, Put, Rm, Mv, SetAttr, RmAttr, Grow}
 use Rattle.lfs_command.specs.Supplies.{Supplies, new_body}
-use Rattle.lfs_command.specs.Home.{home_of}
+use Rattle.lfs_command.specs.Parent.{parent_of}
 
 -- an entry with another body
 abbrev pub with_body : Body → Entry → Entry
@@ -36,7 +36,7 @@ empty_directory pair = record { first = record { pair = pair; entries = []; delt
 abbrev pub with_directories : Volume → List Directory → Volume
 with_directories v ds = record { size = v.size; count = v.count; limits = v.limits; attributes = v.attributes; directories = ds }
 
--- attributes changed, of the root where there is no home
+-- attributes changed, of the root where there is no parent
 abbrev pub set_attributes : Volume → (Attributes → Attributes) → Option (Pair × Name) → Volume
 set_attributes v f None = record {
   size = v.size;
@@ -47,7 +47,7 @@ set_attributes v f None = record {
 }
 set_attributes v f (Some h) = with_directories v (change h.0 h.1 (with_entry_attributes f) v.directories)
 
--- a directory linked at home, and put into the thread behind it
+-- a directory linked in the parent, and put into the thread behind it
 abbrev pub make_directory : Volume → Pair → Option (Pair × Name) → Volume
 make_directory v pair None = v
 make_directory v pair (Some h) = with_directories v (add_after h.0 (empty_directory pair)
@@ -89,10 +89,10 @@ set_count n v = record {
 
 -- the volume after a command
 abbrev pub edited : Volume → Command → Supplies → Volume
-edited v (Mkdir p) s = make_directory v s.pair (home_of v p)
-edited v (Put p bytes) s = put_file v (new_body v s bytes) (home_of v p) (entry_at v p)
-edited v (Rm p) s = remove_entry v (home_of v p) (entry_at v p)
-edited v (Mv p q) s = move_entry v (home_of v p) (home_of v q) (entry_at v p)
-edited v (SetAttr p k value) s = set_attributes v (set_attribute k value) (home_of v p)
-edited v (RmAttr p k) s = set_attributes v (remove_attribute k) (home_of v p)
+edited v (Mkdir p) s = make_directory v s.pair (parent_of v p)
+edited v (Put p bytes) s = put_file v (new_body v s bytes) (parent_of v p) (entry_at v p)
+edited v (Rm p) s = remove_entry v (parent_of v p) (entry_at v p)
+edited v (Mv p q) s = move_entry v (parent_of v p) (parent_of v q) (entry_at v p)
+edited v (SetAttr p k value) s = set_attributes v (set_attribute k value) (parent_of v p)
+edited v (RmAttr p k) s = set_attributes v (remove_attribute k) (parent_of v p)
 edited v (Grow n) s = set_count n v

@@ -8,7 +8,7 @@ use Rattle.lfs_fs.specs.Path.{Path}
 use Rattle.lfs_fs.specs.Volume.{Volume}
 use Rattle.lfs_command.specs.Command.{Command, Grow, Mkdir, Mv, Put, Rm, RmAttr, SetAttr}
 use Rattle.lfs_command.specs.DirectoryEdit.{has_name}
-use Rattle.lfs_command.specs.Home.{home_of}
+use Rattle.lfs_command.specs.Parent.{parent_of}
 
 -- the path of a command; of a move the one from which; where there is none, the root's
 abbrev pub path_of : Command → Path
@@ -26,8 +26,8 @@ pair_in n d = option_map (λ p. p.pair) (find (has_name n) (parts d))
 
 -- the same of the first directory that begins at a pair
 abbrev pub pair_among : List Directory → Pair × Name → Option Pair
-pair_among ds home = option_and_then (pair_in home.1) (find (begins_at home.0) ds)
+pair_among ds parent = option_and_then (pair_in parent.1) (find (begins_at parent.0) ds)
 
 -- the pair of the part that has the entry at a command's path; none where nothing is there
 abbrev pub leading_pair : Volume → Command → Option Pair
-leading_pair v c = option_and_then (pair_among v.directories) (home_of v (path_of c))
+leading_pair v c = option_and_then (pair_among v.directories) (parent_of v (path_of c))

@@ -7,7 +7,7 @@ pub mod EntryEdit
 pub mod DirectoryEdit
 pub mod ThreadEdit
 pub mod Supplies
-pub mod Home
+pub mod Parent
 pub mod Edited
 pub mod Cut
 pub mod Need

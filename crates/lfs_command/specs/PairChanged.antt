@@ -6,13 +6,13 @@ use Rattle.lfs_meta.specs.declared.tail.Tail.TheVariants.{End, Soft, Hard}
 use Rattle.lfs_meta.specs.Body.{Pair}
 use Rattle.lfs_meta.specs.LiveBlock.{stored_part_of}
 use Rattle.lfs_meta.specs.Part.{StoredPart}
-use Rattle.lfs_commit.specs.Appending.{changed_block, changed_number, rewritten_block}
-use Rattle.lfs_commit.specs.Difference.{Forced, Nothing, Struct, Value}
-use Rattle.lfs_commit.specs.Writing.{other_number}
+use Rattle.lfs_pair.specs.Appending.{changed_block, changed_number, rewritten_block}
+use Rattle.lfs_pair.specs.Difference.{Forced, Nothing, Struct, Value}
+use Rattle.lfs_pair.specs.Writing.{other_number}
 use Rattle.lfs_fs.specs.Thread.{Link, links}
 use Rattle.lfs_fs.specs.Volume.{Volume}
 use Rattle.lfs_command.specs.Command.{Command, Put, SetAttr}
-use Rattle.lfs_command.specs.Home.{last_name}
+use Rattle.lfs_command.specs.Parent.{last_name}
 use Rattle.lfs_command.specs.Need.{is_new_to}
 
 -- what a command writes even where it stays the same: the struct of the file that is put, the value that is set

@@ -5,8 +5,8 @@ use Rattle.lfs_block.specs.Disk.{Disk, block_of}
 use Rattle.lfs_block.specs.Patch.{ChangeSet}
 use Rattle.lfs_meta.specs.Body.{Pair}
 use Rattle.lfs_meta.specs.Part.{StoredPart}
-use Rattle.lfs_commit.specs.Spelling.{part_tags}
-use Rattle.lfs_commit.specs.Writing.{log_written, part_in}
+use Rattle.lfs_pair.specs.Spelling.{part_tags}
+use Rattle.lfs_pair.specs.Writing.{log_written, part_in}
 
 -- a pair with what it holds
 abbrev pub Found : Type 0

@@ -22,7 +22,7 @@ use Rattle.lfs_command.specs.Command.{Command, Mkdir, Put, Rm, Mv, SetAttr, RmAt
 use Rattle.lfs_command.specs.Growth.{grown}
 use Rattle.lfs_command.specs.Equation.{attributes_of}
 use Rattle.lfs_command.specs.Supplies.{nothing}
-use Rattle.lfs_command.specs.Home.{split_last}
+use Rattle.lfs_command.specs.Parent.{split_last}
 use Rattle.lfs_command.specs.Edited.{edited}
 use Rattle.lfs_command.specs.Cut.{room, is_first}
 use Rattle.lfs_command.specs.Need.{dirty_parts, need}

@@ -1,8 +1,6 @@
 //! Commands, as they are asked for and as they are carried out.
 
 /// A change of an image, over paths as texts or as names (`P`) and over contents and values, which may have to be read first (`B`).
-///
-/// Source: own.
 #[derive(Clone, Copy, Drop)]
 pub enum Command<P, B> {
     /// Makes a directory.
@@ -53,13 +51,9 @@ pub enum Command<P, B> {
 }
 
 /// A command as it is asked for, its paths as texts.
-///
-/// Source: own.
 pub type Asked<'a> = Command<&'a [u8], &'a [u8]>;
 
 /// A command as it is carried out, its paths as the names from the root on.
-///
-/// Source: own.
 pub type Named<'a> = Command<Vec<&'a [u8]>, &'a [u8]>;
 
 impl<P, B> Command<P, B> {
@@ -67,7 +61,7 @@ impl<P, B> Command<P, B> {
     ghost use Rattle.std.specs.Option.{option_map};
     ghost use Rattle.lfs_command.specs.AskedFor.{path_said, target_said};
 
-    /// The path that it is about; of a move the one that is left. Takes no memory.
+    /// The path that it is about; of a move the one that is left.
     pub fn path(&self) -> Option<&P>
         ensures { option_map (λ path. path.now) result ≡ path_said self.now }
     {
@@ -82,7 +76,7 @@ impl<P, B> Command<P, B> {
         }
     }
 
-    /// The path that a move leads to. Takes no memory.
+    /// The path that a move leads to.
     pub fn target(&self) -> Option<&P>
         ensures { option_map (λ path. path.now) result ≡ target_said self.now }
     {

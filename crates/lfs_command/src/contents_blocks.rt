@@ -9,16 +9,13 @@ use lfs_file::blocks_for;
 use lfs_fs::MOST_HELD;
 
 /// The most bytes of a file that stand in its entry, in blocks of this size.
-///
-/// Source: own.
 pub fn most_inline(size: u32) -> u32
     ensures { result ≡ most_inline size }
 {
     (size / 8).min(MOST_HELD)
 }
 
-/// How many blocks a file of `len` bytes takes beside its entry: none where its contents stand there. The caller owes a block
-/// size that images have, and a length below 2^32.
+/// How many blocks a file of `len` bytes takes beside its entry: none where its contents stand there.
 pub(crate) fn data_count(size: u32, len: usize) -> u32
     requires size { IsBlockSize size }
     requires len { len < 2 ^ 32 }

@@ -9,10 +9,7 @@ ghost use Rattle.lfs_command.specs.Need.{data_blocks, directory_blocks};
 use crate::command::{Command, Named};
 use crate::contents_blocks::data_count;
 
-/// The blocks of the contents, where they don't stand in the entry, in blocks of this size. The caller owes a block size that images
-/// have, and fewer than 2^32 bytes. Takes no memory.
-///
-/// Source: own.
+/// The blocks of the contents, where they don't stand in the entry, in blocks of this size.
 pub fn data_blocks(size: u32, command: &Named<'_>) -> u32
     requires size { IsBlockSize size }
     requires len { contents_len command.now < 2 ^ 32 }
@@ -24,9 +21,7 @@ pub fn data_blocks(size: u32, command: &Named<'_>) -> u32
     }
 }
 
-/// The blocks of a new directory: two. Takes no memory.
-///
-/// Source: own.
+/// The blocks of a new directory: two.
 pub fn directory_blocks(command: &Named<'_>) -> u32
     ensures { result ≡ directory_blocks (named_command command.now) }
 {

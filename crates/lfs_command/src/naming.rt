@@ -12,8 +12,6 @@ use std::alloc::Global;
 
 /// A command whose paths are taken apart into names: `BadPath` where the text of one of them spells no path. `Memory` says only that a
 /// growth was refused.
-///
-/// Source: own.
 pub fn by_names<'a>(alloc: Global, command: &Asked<'a>) -> Result<Named<'a>, Refusal>
     ensures spelled { IfOk result (λ named. Spells (asked_for command.now) (named_command named)) }
     ensures refused { IfErr result (λ refusal. (refusal ≡ Memory) ⊎ ((refusal ≡ BadPath) × SpellsNone (asked_for command.now))) }

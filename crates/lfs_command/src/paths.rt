@@ -6,7 +6,7 @@ ghost use Rattle.std.specs.Option.{option_map};
 ghost use Rattle.lfs_meta.specs.Name.{is_name};
 ghost use Rattle.lfs_fs.specs.Path.{IsPathText, IsNoPath};
 ghost use Rattle.lfs_command.specs.declared.refusal.Refusal.TheVariants.{Memory, BadPath};
-ghost use Rattle.lfs_command.specs.Home.{last_name};
+ghost use Rattle.lfs_command.specs.Parent.{last_name};
 
 use crate::refusal::Refusal;
 use bstr::ByteSlice;
@@ -31,8 +31,6 @@ fn are_names(pieces: &[&[u8]]) -> bool
 /// The names from the root on that a text spells: `/` before each of them, and `/` alone for the root. `BadPath` where the text
 /// spells no path: it begins with no slash, ends with one behind a name, or has an empty name, `.` or `..` in it. `Memory`
 /// says only that a growth was refused.
-///
-/// Source: own.
 pub fn names_of<'a>(alloc: Global, text: &'a [u8]) -> Result<Vec<&'a [u8]>, Refusal>
     ensures spelled { IfOk result (λ names. IsPathText text.now (map (λ n. n.now) names.items)) }
     ensures refused { IfErr result (λ refusal. (refusal ≡ Memory) ⊎ ((refusal ≡ BadPath) × IsNoPath text.now)) }
@@ -52,9 +50,7 @@ pub fn names_of<'a>(alloc: Global, text: &'a [u8]) -> Result<Vec<&'a [u8]>, Refu
     }
 }
 
-/// The last name of a path; the root has none. Takes no memory.
-///
-/// Source: own.
+/// The last name of a path; the root has none.
 pub fn last_of<'a>(names: &[&'a [u8]]) -> Option<&'a [u8]>
     ensures { option_map (λ n. n.now) result ≡ last_name (map (λ n. n.now) names.now) }
 {

@@ -5,8 +5,6 @@ use std::fmt;
 use thiserror::Error;
 
 /// Why a new image or a change is refused.
-///
-/// Source: own.
 #[derive(Clone, Copy, Debug, PartialEq, Eq, Error)]
 pub enum Refusal {
     /// Nothing is at the path, or at a front of it.

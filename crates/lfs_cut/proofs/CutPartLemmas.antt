@@ -82,12 +82,12 @@ first_is_all join v p none =
     ∙ ap (λ (rs : List (List Entry)). first_run (runs v p) ++ flat_map (λ run. run) rs) (sym (no_more (later_runs (runs v p)) none))
     ∙ first_and_later (runs v p) ∙ joined join v p
 
-head_whole : RunsJoin Entry → (v : Volume) (p : Part) (t : Bool) → p.dirty ≡ t → HasEnough (chosen_for []) v p → cut_head v p ≡ p
-head_whole join v p true set enough =
+head_complete : RunsJoin Entry → (v : Volume) (p : Part) (t : Bool) → p.dirty ≡ t → HasEnough (chosen_for []) v p → cut_head v p ≡ p
+head_complete join v p true set enough =
     ap (λ (t : Bool). if t then record { pair = p.pair; entries = first_run (runs v p); delta = p.delta; dirty = true } else p) set
     ∙ ap (λ (es : List Entry). record { pair = p.pair; entries = es; delta = p.delta; dirty = true }) (first_is_all join v p (enough set))
     ∙ ap (λ (t : Bool). record { pair = p.pair; entries = p.entries; delta = p.delta; dirty = t }) (sym set)
-head_whole join v p false unset enough =
+head_complete join v p false unset enough =
     ap (λ (t : Bool). if t then record { pair = p.pair; entries = first_run (runs v p); delta = p.delta; dirty = true } else p) unset
 
 tail_none : (v : Volume) (p : Part) (t : Bool) → p.dirty ≡ t → HasEnough (chosen_for []) v p → cut_tail (chosen_for []) v p ≡ []
@@ -96,16 +96,16 @@ tail_none v p true set enough =
     ∙ ap (more_parts []) (no_more (later_runs (runs v p)) (enough set))
 tail_none v p false unset enough = ap (λ (t : Bool). if t then more_parts [] (later_runs (runs v p)) else []) unset
 
-parts_whole : RunsJoin Entry → (v : Volume) (ps : List Part) → All (HasEnough (chosen_for []) v) ps
+parts_complete : RunsJoin Entry → (v : Volume) (ps : List Part) → All (HasEnough (chosen_for []) v) ps
     → flat_map (λ p. cut_head v p ∷ cut_tail (chosen_for []) v p) ps ≡ ps
-parts_whole join v [] all = refl
-parts_whole join v (p ∷ ps) all =
+parts_complete join v [] all = refl
+parts_complete join v (p ∷ ps) all =
     let here = All-head (HasEnough (chosen_for []) v) p ps all in
     let rest : List Part = flat_map (λ q. cut_head v q ∷ cut_tail (chosen_for []) v q) ps in
     flat_map-cons (λ q. cut_head v q ∷ cut_tail (chosen_for []) v q) p ps
-    ∙ ap (λ (q : Part). q ∷ (cut_tail (chosen_for []) v p ++ rest)) (head_whole join v p p.dirty refl here)
+    ∙ ap (λ (q : Part). q ∷ (cut_tail (chosen_for []) v p ++ rest)) (head_complete join v p p.dirty refl here)
     ∙ ap (λ (qs : List Part). p ∷ (qs ++ rest)) (tail_none v p p.dirty refl here)
-    ∙ ap (λ (qs : List Part). p ∷ qs) (parts_whole join v ps (All-tail (HasEnough (chosen_for []) v) p ps all))
+    ∙ ap (λ (qs : List Part). p ∷ qs) (parts_complete join v ps (All-tail (HasEnough (chosen_for []) v) p ps all))
 
 -- where no pairs are needed nothing is cut
 pub nothing_cut : RunsJoin Entry → (v : Volume) (ds : List Directory) → All (HasEnough (chosen_for []) v) (thread ds)
@@ -116,11 +116,11 @@ nothing_cut join v (d ∷ ds) all =
     let first = All-head (HasEnough (chosen_for []) v) d.first d.more here in
     let more : List Part = flat_map (λ q. cut_head v q ∷ cut_tail (chosen_for []) v q) d.more in
     sym (ap (λ (q : Part). record { first = q; more = cut_tail (chosen_for []) v d.first ++ more } ∷ map (cut_directory (chosen_for []) v) ds)
-    (head_whole join v d.first d.first.dirty refl first)
+    (head_complete join v d.first d.first.dirty refl first)
     ∙ ap (λ (qs : List Part). record { first = d.first; more = qs ++ more } ∷ map (cut_directory (chosen_for []) v) ds)
     (tail_none v d.first d.first.dirty refl first)
     ∙ ap (λ (qs : List Part). record { first = d.first; more = qs } ∷ map (cut_directory (chosen_for []) v) ds)
-    (parts_whole join v d.more (All-tail (HasEnough (chosen_for []) v) d.first d.more here))
+    (parts_complete join v d.more (All-tail (HasEnough (chosen_for []) v) d.first d.more here))
     ∙ ap (λ (es : List Directory). d ∷ es)
     (sym (nothing_cut join v ds (All-right (HasEnough (chosen_for []) v) (parts d) (thread ds) all))))
 
@@ -128,4 +128,4 @@ pub nothing_to_cut : RunsJoin Entry → (o : Volume) (rows : List PairRow) → r
     → o ≡ cut (chosen_for rows) o
 nothing_to_cut join o rows none enough =
     subst (λ (rs : List PairRow). All (HasEnough (chosen_for rs) o) (thread o.directories) → o ≡ cut (chosen_for rs) o) (sym none)
-    (λ whole. ap (with_directories o) (nothing_cut join o o.directories whole)) enough
+    (λ complete. ap (with_directories o) (nothing_cut join o o.directories complete)) enough

@@ -9,25 +9,25 @@ use Rattle.lfs_fs.proofs.ItemLemmas.{drop_at}
 use Rattle.lfs_cut.specs.declared.overflow.Overflow.{Overflow}
 use Rattle.lfs_cut.specs.Overflow.{overflow_of, overflows_of}
 
-pub one_gathered : {X Y : Type 0} (f : X → List Y) (xs : List X) (i : ℕ) (x : X) (done whole : List Y) → i < length xs
+pub one_gathered : {X Y : Type 0} (f : X → List Y) (xs : List X) (i : ℕ) (x : X) (done complete : List Y) → i < length xs
     → x ≡ slice_index_or xs i x
-    → done ++ flat_map f (drop i xs) ≡ whole → (done ++ f x) ++ flat_map f (drop (i + 1) xs) ≡ whole
-one_gathered f xs i x done whole within is so =
+    → done ++ flat_map f (drop i xs) ≡ complete → (done ++ f x) ++ flat_map f (drop (i + 1) xs) ≡ complete
+one_gathered f xs i x done complete within is so =
     append_assoc done (f x) (flat_map f (drop (i + 1) xs))
     ∙ ap (λ ys. done ++ ys) (sym (flat_map-cons f x (drop (i + 1) xs)))
     ∙ ap (λ ys. done ++ flat_map f ys) (sym (drop_at xs i x within is)) ∙ so
 
-pub room_for_one : {X Y : Type 0} (f : X → List Y) (xs : List X) (i : ℕ) (x : X) (done whole : List Y) → i < length xs
+pub room_for_one : {X Y : Type 0} (f : X → List Y) (xs : List X) (i : ℕ) (x : X) (done complete : List Y) → i < length xs
     → x ≡ slice_index_or xs i x
-    → done ++ flat_map f (drop i xs) ≡ whole → length done + length (f x) ≤ length whole
-room_for_one f xs i x done whole within is so =
-    let all : length ((done ++ f x) ++ flat_map f (drop (i + 1) xs)) ≡ length whole =
-    ap (λ ys. length ys) (one_gathered f xs i x done whole within is so) in
+    → done ++ flat_map f (drop i xs) ≡ complete → length done + length (f x) ≤ length complete
+room_for_one f xs i x done complete within is so =
+    let all : length ((done ++ f x) ++ flat_map f (drop (i + 1) xs)) ≡ length complete =
+    ap (λ ys. length ys) (one_gathered f xs i x done complete within is so) in
     omega (arith, all, length-append (done ++ f x) (flat_map f (drop (i + 1) xs)), length-append done (f x))
 
-pub all_gathered : {X Y : Type 0} (f : X → List Y) (xs : List X) (i : ℕ) (done whole : List Y) → length xs ≤ i
-    → done ++ flat_map f (drop i xs) ≡ whole → done ≡ whole
-all_gathered {X} {Y} f xs i done whole past so = sym (append-nil done)
+pub all_gathered : {X Y : Type 0} (f : X → List Y) (xs : List X) (i : ℕ) (done complete : List Y) → length xs ≤ i
+    → done ++ flat_map f (drop i xs) ≡ complete → done ≡ complete
+all_gathered {X} {Y} f xs i done complete past so = sym (append-nil done)
     ∙ ap (λ (ys : List Y). done ++ ys) (sym (none (drop i xs) (omega (arith, length-drop i xs, past)))) ∙ so
   where
     none : (ys : List X) → length ys ≡ 0 → flat_map f ys ≡ []

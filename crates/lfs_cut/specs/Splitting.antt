@@ -10,8 +10,8 @@ with_run run [] = []
 with_run run (next ∷ runs) = (run ++ next) ∷ runs
 
 -- Of all runs some are there, the last of them at work, which weighs so much and has so many entries; some entries are left.
-pub record IsSplitTo (whole : List (List Entry)) (room : ℕ) (runs : List (List Entry)) (run : List Entry) (taken len : ℕ)
+pub record IsSplitTo (complete : List (List Entry)) (room : ℕ) (runs : List (List Entry)) (run : List Entry) (taken len : ℕ)
     (left : List Entry) : Type 0 where
-  pub is : whole ≡ runs ++ with_run run (runs_after weight room taken len left)
+  pub is : complete ≡ runs ++ with_run run (runs_after weight room taken len left)
   pub light : taken ≤ 330244
   pub few : len ≤ most_entries

@@ -27,8 +27,7 @@ pub(crate) struct BlockRoom {
     pub(crate) ghost light: { superblock ≤ 330244 },
 }
 
-/// What a block of an outline has room for. The caller owes blocks of at most 65,536 bytes, and that the root's attributes rise
-/// by kind. Takes no memory.
+/// What a block of an outline has room for.
 pub(crate) fn block_room(outline: &Outline) -> BlockRoom
     requires size { outline.now.size ≤ 65536 }
     ensures bytes { result.bytes ≡ room outline.now }
@@ -48,7 +47,7 @@ pub(crate) fn is_root(pair: (u32, u32)) -> bool
 }
 
 /// What the first run of a pair's entries weighs already, and how many entries it has: the superblock counts as the first entry of
-/// its part. Takes no memory.
+/// its part.
 pub(crate) fn begun_run(room: BlockRoom, pair: (u32, u32)) -> (u32, usize)
     ensures runs { (es : List Entry) → runs_after weight room.bytes result.0 result.1 es ≡ runs_at room.bytes room.superblock pair es }
     ensures light { result.0 ≤ 330244 }

@@ -18,8 +18,7 @@ use arrayvec::ArrayVec;
 use lfs_fs::Outline;
 use std::alloc::{AllocError, Global};
 
-/// A row for each part that overflows, in order, whose pairs are the next of the blocks two by two. The caller owes at most two
-/// parts, and as many blocks as they need.
+/// A row for each part that overflows, in order, whose pairs are the next of the blocks two by two.
 fn rows_of(
     alloc: Global,
     overflows: &[Overflow],
@@ -43,11 +42,7 @@ fn rows_of(
 }
 
 /// The pairs for the new parts of an outline: a row for each part that is set and has more than one run, that of the pair
-/// `leading` first, then in the order of the thread. The pairs of all rows are the blocks two by two in order. The caller owes
-/// what `block_room` asks, that only parts of so many directories in front are set, as many blocks as the parts need
-/// (`new_blocks`), that no two parts have the same pair, and at most two parts with more than one run.
-///
-/// Source: own.
+/// `leading` first, then in the order of the thread. The pairs of all rows are the blocks two by two in order.
 pub fn choose(
     alloc: Global,
     outline: &Outline,

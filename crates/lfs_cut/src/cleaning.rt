@@ -41,10 +41,7 @@ fn clean_directories(directories: &mut Vec<OutlineDirectory>, front: usize)
     }
 }
 
-/// Takes the marks off the parts of an outline, once they are written. The caller owes that only parts of so many directories in front are set.
-/// Takes no memory.
-///
-/// Source: own.
+/// Takes the marks off the parts of an outline, once they are written.
 pub fn clean(outline: &mut Outline, front: usize)
     requires { IsCleanFrom front outline.old.directories }
     ensures { outline.new ≡ clean outline.old }

@@ -181,11 +181,8 @@ fn cut_directories(
     Ok(())
 }
 
-/// Cuts each part of an outline that is set: it keeps its first run, and the others go to new parts right behind it, in the pairs
-/// of its row. The caller owes what `block_room` asks, that only parts of so many directories in front are set, and as many pairs as each
-/// of them has runs behind its first. Want of memory leaves an outline that is cut in part, and lacks entries.
-///
-/// Source: own.
+/// Cuts each part of an outline that is set: it keeps its first run, and the others go to new parts right behind it, in the pairs of its
+/// row. Want of memory leaves an outline that is cut in part, and lacks entries.
 pub fn cut(
     alloc: Global,
     outline: &mut Outline,

@@ -52,7 +52,7 @@ fn blocks_of_directories(room: BlockRoom, directories: &[OutlineDirectory]) -> u
 }
 
 /// The new blocks of the parts that are set: two for each run behind a part's first. At most 2^64 - 1, which is more than any image
-/// has. The caller owes what `block_room` asks, and that only parts of so many directories in front are set. Takes no memory.
+/// has.
 pub(crate) fn new_blocks(outline: &Outline, front: usize) -> u64
     requires size { outline.now.size ≤ 65536 }
     requires front { IsCleanFrom front outline.now.directories }

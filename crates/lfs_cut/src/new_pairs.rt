@@ -8,8 +8,6 @@ use std::default::MadeWith;
 use std::marker::Model;
 
 /// The pairs for the new parts of a part. Its meaning is the part's pair with them.
-///
-/// Source: own.
 #[derive(Drop)]
 pub struct NewPairs {
     /// The pair of the part.

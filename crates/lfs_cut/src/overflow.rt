@@ -20,7 +20,7 @@ pub(crate) struct Overflow {
     pub(crate) len: usize,
 }
 
-/// Notes a part, where it is set and has more than one run. The caller owes room.
+/// Notes a part, where it is set and has more than one run.
 fn note(room: BlockRoom, part: &OutlinePart, overflows: &mut ArrayVec<Overflow, 2>)
     requires { array_vec_len overflows.old + length (overflow_of room.bytes room.superblock part.now) ≤ 2 }
     ensures { overflows.new.items ≡ overflows.old.items ++ overflow_of room.bytes room.superblock part.now }
@@ -37,7 +37,7 @@ fn note(room: BlockRoom, part: &OutlinePart, overflows: &mut ArrayVec<Overflow, 
     }
 }
 
-/// Notes each of some parts that is set and has more than one run. The caller owes room.
+/// Notes each of some parts that is set and has more than one run.
 fn note_all(room: BlockRoom, parts: &[OutlinePart], overflows: &mut ArrayVec<Overflow, 2>)
     requires { array_vec_len overflows.old + length (overflows_of room.bytes room.superblock parts.now) ≤ 2 }
     ensures { overflows.new.items ≡ overflows.old.items ++ overflows_of room.bytes room.superblock parts.now }
@@ -47,7 +47,7 @@ fn note_all(room: BlockRoom, parts: &[OutlinePart], overflows: &mut ArrayVec<Ove
     }
 }
 
-/// Notes each part of a directory that is set and has more than one run. The caller owes room.
+/// Notes each part of a directory that is set and has more than one run.
 fn note_directory(
     room: BlockRoom,
     directory: &OutlineDirectory,
@@ -60,7 +60,7 @@ fn note_directory(
     note_all(room, &directory.parts.more, overflows);
 }
 
-/// The parts that are set and have more than one run, in the order of the thread. The caller owes at most two. Takes no memory.
+/// The parts that are set and have more than one run, in the order of the thread.
 pub(crate) fn overflows_of(
     room: BlockRoom,
     directories: &[OutlineDirectory],
@@ -75,7 +75,7 @@ pub(crate) fn overflows_of(
     overflows
 }
 
-/// Of two parts puts that of the pair `leading` first. Takes no memory.
+/// Of two parts puts that of the pair `leading` first.
 pub(crate) fn put_first(overflows: &mut ArrayVec<Overflow, 2>, leading: Option<(u32, u32)>)
     ensures { overflows.new.items ≡ leader_first (λ g. g.pair) leading overflows.old.items }
 {

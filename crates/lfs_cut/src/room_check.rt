@@ -13,11 +13,8 @@ use lfs_command::Refusal;
 use lfs_fs::{Outline, UsedBlocks};
 
 /// How many blocks a command needs: those that it takes for what it makes, and those of the new parts of the outline that it leaves.
-/// `EntryTooLarge` where some part that is set has an entry that weighs more than a block has room for, else `NoSpace` where fewer
-/// blocks are free. The caller owes what `block_room` asks, that only parts of so many directories in front are set, and that the need is
-/// below 2^32. Takes no memory.
-///
-/// Source: own.
+/// `EntryTooLarge` where some part that is set has an entry that weighs more than a block has room for, else `NoSpace` where fewer blocks
+/// are free.
 pub fn needed(outline: &Outline, front: usize, made: u32, used: &UsedBlocks) -> Result<u32, Refusal>
     requires size { outline.now.size ≤ 65536 }
     requires front { IsCleanFrom front outline.now.directories }

@@ -11,7 +11,7 @@ use lfs_fs::{OutlineEntry, OutlinePart};
 use lfs_meta::run_takes;
 
 /// The number of runs of entries where a block has `room` bytes for them and the first run weighs `taken` and has `len` entries
-/// already, as `split` makes them. Takes no memory.
+/// already, as `split` makes them.
 pub(crate) fn run_count(entries: &[OutlineEntry], room: u32, taken: u32, len: usize) -> usize
     requires room { room ≤ 65536 }
     requires light { taken ≤ 330244 }
@@ -34,7 +34,7 @@ pub(crate) fn run_count(entries: &[OutlineEntry], room: u32, taken: u32, len: us
     count
 }
 
-/// The number of runs of a part's entries. Takes no memory.
+/// The number of runs of a part's entries.
 pub(crate) fn part_runs(room: BlockRoom, part: &OutlinePart) -> usize
     ensures { result ≡ length (runs_by room.bytes room.superblock part.now) }
 {

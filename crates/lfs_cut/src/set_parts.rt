@@ -56,8 +56,7 @@ fn any_directory_too_large(room: BlockRoom, directories: &[OutlineDirectory]) ->
         .any(|directory| directory_too_large(room, directory))
 }
 
-/// Whether some part that is set has an entry, the superblock among them, that weighs more than a block has room for. The caller
-/// owes what `block_room` asks, and that only parts of so many directories in front are set. Takes no memory.
+/// Whether some part that is set has an entry, the superblock among them, that weighs more than a block has room for.
 pub(crate) fn has_too_large(outline: &Outline, front: usize) -> bool
     requires size { outline.now.size ≤ 65536 }
     requires front { IsCleanFrom front outline.now.directories }

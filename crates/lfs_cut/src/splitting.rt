@@ -46,9 +46,9 @@ impl Splitting {
         requires room { room ≤ 65536 }
         requires light { self.old.taken ≤ 330244 }
         requires few { self.old.len ≤ most_entries }
-        ensures { OnOk result ((whole : List (List Entry)) (left : List Entry)
-            → IsSplitTo whole room (map (λ run. run.items) self.old.done.items) self.old.run.items self.old.taken self.old.len (entry ∷ left)
-            → IsSplitTo whole room (map (λ run. run.items) self.new.done.items) self.new.run.items self.new.taken self.new.len left) }
+        ensures { OnOk result ((complete : List (List Entry)) (left : List Entry)
+            → IsSplitTo complete room (map (λ run. run.items) self.old.done.items) self.old.run.items self.old.taken self.old.len (entry ∷ left)
+            → IsSplitTo complete room (map (λ run. run.items) self.new.done.items) self.new.run.items self.new.taken self.new.len left) }
     {
         let next = weight(&entry);
         if !run_takes(room, self.taken, self.len, next) {

@@ -27,7 +27,7 @@ fn body_weight(body: &OutlineBody) -> u32
 }
 
 /// The bytes that an entry takes of a block: four for each of its tags, with its name, its struct's data and its attributes'
-/// values. Takes no memory.
+/// values.
 ///
 /// Source: SPEC.md, "Metadata tags".
 pub fn weight(entry: &OutlineEntry) -> u32

@@ -20,13 +20,13 @@ use Rattle.lfs_fs.specs.Volume.{Volume}
 use Rattle.lfs_command.specs.declared.refusal.Refusal.TheVariants.{IsADirectory, IsRoot, NameTooLong, NotFound}
 use Rattle.lfs_command.specs.Command.{Mv, Put}
 use Rattle.lfs_draft.specs.Editable.{BeginOnce, NamedOnce, IsEditable}
-use Rattle.lfs_command.specs.Home.{home_of}
+use Rattle.lfs_command.specs.Parent.{parent_of}
 use Rattle.lfs_law.specs.PairWalk.{pair_at, name_in}
 use Rattle.lfs_command.specs.ThreadEdit.{in_directory}
 use Rattle.lfs_command.specs.Verdict.{is_directory, is_root, last_length, refuse_if, walk_refusal}
 use Rattle.lfs_law.proofs.DirectoryEdits.{begins_same}
-use Rattle.lfs_law.proofs.EntriesThere.{stands_at_home}
-use Rattle.lfs_law.proofs.Homes.{Splits, first_passes, path_splits, test_passes}
+use Rattle.lfs_law.proofs.EntriesThere.{stands_at_parent}
+use Rattle.lfs_law.proofs.Parents.{Splits, first_passes, path_splits, test_passes}
 use Rattle.lfs_law.proofs.InDirectory.{KeepsAllParts}
 use Rattle.lfs_law.proofs.Marks.{named_once}
 use Rattle.lfs_law.proofs.OnePath.{entry_found, found_name, one_directory}
@@ -62,22 +62,22 @@ begins_kept j k f (d ∷ ds) keeps =
       begins_kept j k f ds keeps,
     )
 
--- ---- homes
+-- ---- parents
 
--- the name of a home is the last one
-home_by : (n : Name) (k : Option Pair) (h : Pair × Name) → option_map {U = Pair × Name} (λ (j : Pair). (j, n)) k ≡ Some h → n ≡ h.1
-home_by n None h is = cc
-home_by n (Some k) h is = ap (λ (x : Pair × Name). x.1) (same_Some (k, n) h is)
+-- the name of a parent is the last one
+parent_by : (n : Name) (k : Option Pair) (h : Pair × Name) → option_map {U = Pair × Name} (λ (j : Pair). (j, n)) k ≡ Some h → n ≡ h.1
+parent_by n None h is = cc
+parent_by n (Some k) h is = ap (λ (x : Pair × Name). x.1) (same_Some (k, n) h is)
 
-home_at : (v : Volume) (p : Path) (h : Pair × Name) (s : Splits p) → home_of v p ≡ Some h → last_length p ≡ length h.1
-home_at v p h s is =
+parent_at : (v : Volume) (p : Path) (h : Pair × Name) (s : Splits p) → parent_of v p ≡ Some h → last_length p ≡ length h.1
+parent_at v p h s is =
     ap (λ (x : Option (Path × Name)). unwrap_or (option_map (λ (s : Path × Name). length s.1) x) 0) s.split
-    ∙ ap length (home_by s.name (pair_at v.directories root s.front) h
-    (ap (option_and_then (name_in v.directories)) (sym s.split) ∙ sym ((walks_go_by_pairs v).home p) ∙ is))
+    ∙ ap length (parent_by s.name (pair_at v.directories root s.front) h
+    (ap (option_and_then (name_in v.directories)) (sym s.split) ∙ sym ((walks_go_by_pairs v).parent p) ∙ is))
 
-pub last_home : (v : Volume) (p : Path) (h : Pair × Name) → home_of v p ≡ Some h → last_length p ≡ length h.1
-last_home v [] h is = cc
-last_home v (n ∷ ns) h is = home_at v (n ∷ ns) h (path_splits (n ∷ ns) refl) is
+pub last_parent : (v : Volume) (p : Path) (h : Pair × Name) → parent_of v p ≡ Some h → last_length p ≡ length h.1
+last_parent v [] h is = cc
+last_parent v (n ∷ ns) h is = parent_at v (n ∷ ns) h (path_splits (n ∷ ns) refl) is
 
 -- ---- what the checks leave
 
@@ -90,7 +90,7 @@ entry_short o sound k n e is =
     omega (arith, same, proper.name_fits)
 
 -- a file's name is within the limits: it is there, or was checked
-pub put_short : (o : Volume) (p : Path) (bytes : List ℕ) (h : Pair × Name) → IsEditable o (Put p bytes) → home_of o p ≡ Some h
+pub put_short : (o : Volume) (p : Path) (bytes : List ℕ) (h : Pair × Name) → IsEditable o (Put p bytes) → parent_of o p ≡ Some h
     → length h.1 < 1023
 put_short o p bytes h editable is = by (entry_at o p) refl
   where
@@ -107,13 +107,13 @@ put_short o p bytes h editable is = by (entry_at o p) refl
         let long : nat_lt o.limits.name (last_length p) ≡ false = ap (λ (x : Option Entry).
         is_none (option_map node x) && nat_lt o.limits.name (last_length p)) (sym none) ∙ passed in
         let limit = editable.limits.name.1 in
-        let len = last_home o p h is in
+        let len = last_parent o p h is in
         grind (arith, nat_tests)
     by (Some e) some =
-        omega (arith, entry_short o editable.sound h.0 h.1 e (sym (stands_at_home o p h.0 h.1 is) ∙ some), editable.limits.name.1)
+        omega (arith, entry_short o editable.sound h.0 h.1 e (sym (stands_at_parent o p h.0 h.1 is) ∙ some), editable.limits.name.1)
 
 -- what is moved is there
-pub moved_there : (o : Volume) (p q : Path) (h : Pair × Name) → IsEditable o (Mv p q) → home_of o p ≡ Some h
+pub moved_there : (o : Volume) (p q : Path) (h : Pair × Name) → IsEditable o (Mv p q) → parent_of o p ≡ Some h
     → (e : Entry) × (entry_in o.directories h.0 h.1 ≡ Some e)
 moved_there o p q h editable is = by (entry_at o p) refl
   where
@@ -125,4 +125,4 @@ moved_there o p q h editable is = by (entry_at o p) refl
 
     by : (e : Option Entry) → entry_at o p ≡ e → (e : Entry) × (entry_in o.directories h.0 h.1 ≡ Some e)
     by None none = absurd (true≢false (ap (λ (x : Option Entry). is_none (option_map node x)) (sym none) ∙ passed))
-    by (Some e) some = (e, sym (stands_at_home o p h.0 h.1 is) ∙ some)
+    by (Some e) some = (e, sym (stands_at_parent o p h.0 h.1 is) ∙ some)

@@ -25,7 +25,7 @@ use Rattle.lfs_command.specs.declared.command.Command.TheVariants as case
 use Rattle.lfs_command.specs.DirectoryEdit.{absorb, change_in, link_in, touch_last, unlink_in}
 use Rattle.lfs_command.specs.Edited.{drop_target, make_directory, move_entry, put_file, remove_entry, set_attributes}
 use Rattle.lfs_command.specs.Edited.{empty_directory, new_entry, renamed, with_body, with_entry_attributes}
-use Rattle.lfs_command.specs.Home.{home_of}
+use Rattle.lfs_command.specs.Parent.{parent_of}
 use Rattle.lfs_command.specs.Supplies.{Supplies, new_body}
 use Rattle.lfs_command.specs.ThreadEdit.{add_after, drop_directory, in_directory, link, take_out, touch_first, unlink}
 use Rattle.lfs_law.specs.EditedOutline.{edited_outline}
@@ -93,7 +93,7 @@ clean_touched n (d ∷ ds) all = clean_drop n ds (clean_behind d ds all)
 
 -- ---- where the directory is among those in front
 
--- none of the directories behind so many is that of a home
+-- none of the directories behind so many is that of a parent
 abbrev pub IsBefore : Option (Pair × Name) → ℕ → List Directory → Type 0
 IsBefore h n ds = (k : Pair) (m : Name) → h ≡ Some (k, m) → count_by (begins_at k) (drop n ds) ≡ 0
 
@@ -184,12 +184,12 @@ none_past k (e ∷ ds) zero d within begins once = grind (arith, count_cases (be
 none_past k (e ∷ ds) (suc i) d within begins once =
     none_past k ds i d (omega (arith, within)) begins (grind (arith, count_cases (begins_at k) e ds))
 
-same_home : (k : Pair) (m : Name) (j : Pair) (n : Name) → ◌≡◌ {A = Option (Pair × Name)} (Some (k, m)) (Some (j, n)) → k ≡ j
-same_home k m j n same = ap (λ (h : Option (Pair × Name)). home_pair k h) same
+same_parent : (k : Pair) (m : Name) (j : Pair) (n : Name) → ◌≡◌ {A = Option (Pair × Name)} (Some (k, m)) (Some (j, n)) → k ≡ j
+same_parent k m j n same = ap (λ (h : Option (Pair × Name)). parent_pair k h) same
   where
-    home_pair : Pair → Option (Pair × Name) → Pair
-    home_pair x None = x
-    home_pair x (Some h) = h.0
+    parent_pair : Pair → Option (Pair × Name) → Pair
+    parent_pair x None = x
+    parent_pair x (Some h) = h.0
 
 one_more : (n : ℕ) → suc n ≡ n + 1
 one_more n = omega arith
@@ -203,9 +203,9 @@ none_behind k n ds none = omega (arith, none, sum_by-take-drop (λ d. if begins_
 
 -- ---- how many are in front
 
-pub front_at : (o : Volume) (p : Path) (k : Pair) (m : Name) (at : ℕ) → home_of o p ≡ Some (k, m)
+pub front_at : (o : Volume) (p : Path) (k : Pair) (m : Name) (at : ℕ) → parent_of o p ≡ Some (k, m)
     → position (begins_at k) o.directories ≡ Some at → BeginOnce o.directories → IsFrontOf o p (at + 2)
-front_at o p k m at home found once =
+front_at o p k m at parent found once =
     let here = position-Some (begins_at k) o.directories at (empty_directory k) found in
     let later : at + 1 ≡ suc at = omega arith in
     let none : count_by (begins_at k) (drop (at + 1) o.directories) ≡ 0 = ap (λ (n : ℕ). count_by (begins_at k) (drop n o.directories)) later
@@ -214,20 +214,20 @@ front_at o p k m at home found once =
       before = at + 1;
       one = omega arith;
       is = omega arith;
-      none = λ j n other. subst (λ (x : Pair). count_by (begins_at x) (drop (at + 1) o.directories) ≡ 0) (same_home k m j n (sym home ∙ other)) none;
+      none = λ j n other. subst (λ (x : Pair). count_by (begins_at x) (drop (at + 1) o.directories) ≡ 0) (same_parent k m j n (sym parent ∙ other)) none;
     }
 
-pub front_nowhere : (o : Volume) (p : Path) (k : Pair) (m : Name) → home_of o p ≡ Some (k, m) → position (begins_at k) o.directories ≡ None
+pub front_nowhere : (o : Volume) (p : Path) (k : Pair) (m : Name) → parent_of o p ≡ Some (k, m) → position (begins_at k) o.directories ≡ None
     → IsFrontOf o p 2
-front_nowhere o p k m home nothing = record {
+front_nowhere o p k m parent nothing = record {
   before = 1;
   one = omega arith;
   is = refl;
-  none = λ j n other. subst (λ (x : Pair). count_by (begins_at x) (drop 1 o.directories) ≡ 0) (same_home k m j n (sym home ∙ other))
+  none = λ j n other. subst (λ (x : Pair). count_by (begins_at x) (drop 1 o.directories) ≡ 0) (same_parent k m j n (sym parent ∙ other))
       (none_behind k 1 o.directories (none_counts (begins_at k) o.directories (nowhere (begins_at k) o.directories nothing)));
 }
 
-pub front_without : (o : Volume) (p : Path) → home_of o p ≡ None → IsFrontOf o p 2
+pub front_without : (o : Volume) (p : Path) → parent_of o p ≡ None → IsFrontOf o p 2
 front_without o p none = record {
   before = 1;
   one = omega arith;
@@ -241,25 +241,25 @@ pub make_front : (o : Volume) (p : Path) (n : ℕ) (s : Supplies) → IsFrontOf 
     → IsCleanFrom n (edited_outline o (Mkdir p) s).directories
 make_front o p n s front clean =
     subst (λ (k : ℕ). IsCleanFrom k (edited_outline o (Mkdir p) s).directories) (one_more front.before ∙ sym front.is)
-    (clean_made o s.pair (home_of o p) front.before front.none clean)
+    (clean_made o s.pair (parent_of o p) front.before front.none clean)
 
 pub put_front : (o : Volume) (p : Path) (bytes : List ℕ) (n : ℕ) (s : Supplies) → IsFrontOf o p n → IsClean o
     → IsCleanFrom n (edited_outline o (Put p bytes) s).directories
 put_front o p bytes n s front clean =
     subst (λ (k : ℕ). IsCleanFrom k (edited_outline o (Put p bytes) s).directories) (one_more front.before ∙ sym front.is)
-    (clean_put o (outlined_body (new_body o s bytes)) (home_of o p) (entry_at o p) front.before front.none clean)
+    (clean_put o (outlined_body (new_body o s bytes)) (parent_of o p) (entry_at o p) front.before front.none clean)
 
 pub set_front : (o : Volume) (p : Path) (kind : ℕ) (value : List ℕ) (n : ℕ) (s : Supplies) → IsFrontOf o p n → IsClean o
     → IsCleanFrom n (edited_outline o (SetAttr p kind value) s).directories
 set_front o p kind value n s front clean =
     subst (λ (k : ℕ). IsCleanFrom k (edited_outline o (SetAttr p kind value) s).directories) (one_more front.before ∙ sym front.is)
-    (clean_set o (set_attribute kind value) (home_of o p) front.before front.none clean)
+    (clean_set o (set_attribute kind value) (parent_of o p) front.before front.none clean)
 
 pub unset_front : (o : Volume) (p : Path) (kind n : ℕ) (s : Supplies) → IsFrontOf o p n → IsClean o
     → IsCleanFrom n (edited_outline o (RmAttr p kind) s).directories
 unset_front o p kind n s front clean =
     subst (λ (k : ℕ). IsCleanFrom k (edited_outline o (RmAttr p kind) s).directories) (one_more front.before ∙ sym front.is)
-    (clean_set o (remove_attribute kind) (home_of o p) front.before front.none clean)
+    (clean_set o (remove_attribute kind) (parent_of o p) front.before front.none clean)
 
 -- what is about one path, and not removed or moved
 pub one_front : (o : Volume) (command : OnNames) (path : Vec (Bor Name)) (n : ℕ)
@@ -288,11 +288,11 @@ pub any_front : (o : Volume) (command : OnNames) (n : ℕ) → n ≡ length o.di
 any_front o command n many (inl (path, is)) s =
     subst (λ (x : OnNames). IsCleanFrom n (edited_outline o (named_command x) s).directories) (sym is)
     (subst (λ (k : ℕ). IsCleanFrom k (edited_outline o (named_command (case.Rm path)) s).directories) (sym many)
-    (clean_removed o (home_of o (map (λ n. n.now) path.items)) (entry_at o (map (λ n. n.now) path.items))))
+    (clean_removed o (parent_of o (map (λ n. n.now) path.items)) (entry_at o (map (λ n. n.now) path.items))))
 any_front o command n many (inr (inl (from, to, is))) s =
     subst (λ (x : OnNames). IsCleanFrom n (edited_outline o (named_command x) s).directories) (sym is)
     (subst (λ (k : ℕ). IsCleanFrom k (edited_outline o (named_command (case.Mv from to)) s).directories) (sym many)
-    (clean_moved o (home_of o (map (λ n. n.now) from.items)) (home_of o (map (λ n. n.now) to.items)) (entry_at o (map (λ n. n.now) from.items))))
+    (clean_moved o (parent_of o (map (λ n. n.now) from.items)) (parent_of o (map (λ n. n.now) to.items)) (entry_at o (map (λ n. n.now) from.items))))
 any_front o command n many (inr (inr (count, is))) s =
     subst (λ (x : OnNames). IsCleanFrom n (edited_outline o (named_command x) s).directories) (sym is)
     (subst (λ (k : ℕ). IsCleanFrom k (edited_outline o (named_command (case.Grow count)) s).directories) (sym many) (clean_grown o.directories))

@@ -269,10 +269,10 @@ stands_last ps p last some is at =
     front_and_last ps p some
     ∙ ap (λ (q : Part). take (length ps - 1) ps ++ q ∷ []) (sym (at ∙ ap (λ (i : ℕ). get_or ps i p) is))
 
-pub home_is_last : NamesAreOrdered → (n : Name) (ps : List Part) (p : Part) (last : ℕ) → 0 < length ps → last ≡ length ps - 1
+pub parent_is_last : NamesAreOrdered → (n : Name) (ps : List Part) (p : Part) (last : ℕ) → 0 < length ps → last ≡ length ps - 1
     → p ≡ get_or ps last p → Rise (entries_of ps) → EndsBefore n p.entries
     → last ≡ unwrap_or (position (has_greater n) ps) (length ps - 1)
-home_is_last order n ps p last some is at rise ends =
+parent_is_last order n ps p last some is at rise ends =
     let are = stands_last ps p last some is at in
     let before : AllBefore n (entries_of ps) = subst (λ (qs : List Part). AllBefore n (entries_of qs)) (sym are)
     (parts_before order n (take (length ps - 1) ps) p (subst (λ (qs : List Part). Rise (entries_of qs)) are rise) ends) in

@@ -9,7 +9,7 @@ pub mod WalkSteps
 pub mod EditableLemmas
 pub mod BareDirectories
 pub mod PathsBelow
-pub mod NoHome
+pub mod NoParent
 pub mod ReachSteps
 pub mod FreeingLemmas
 pub mod LastNames

@@ -96,10 +96,10 @@ file_there v ds ns i d k e same within leads is file =
 pub all_there : (v : Volume) (ns : List (Bor Name)) (i : ℕ) (k : Pair) → length ns ≤ i → LeadTo v ns i k → Reaches v (path_of ns) (length ns)
 all_there v ns i k behind leads =
     let long : length (path_of ns) ≡ length ns = length-map ns (λ (n : Bor Name). n.now) in
-    let whole : take i (path_of ns) ≡ take (length ns) (path_of ns) =
+    let complete : take i (path_of ns) ≡ take (length ns) (path_of ns) =
     take_all i (path_of ns) (omega (arith, behind, long)) ∙ sym (take_all (length ns) (path_of ns) (omega (arith, long))) in
     record {
       within = omega (arith, long);
-      there = ap (λ (p : Path). is_some (tree v p)) (sym whole) ∙ there v ns i k leads;
+      there = ap (λ (p : Path). is_some (tree v p)) (sym complete) ∙ there v ns i k leads;
       ends = inl (sym long);
     }

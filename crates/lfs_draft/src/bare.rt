@@ -29,7 +29,7 @@ fn is_empty(directory: &OutlineDirectory) -> bool
     has_none(&directory.parts.first) && have_none(&directory.parts.more)
 }
 
-/// Whether the directory that a pair leads to has no entry; so it is where no pair is, or none leads anywhere. Takes no memory.
+/// Whether the directory that a pair leads to has no entry; so it is where no pair is, or none leads anywhere.
 pub(crate) fn is_bare(outline: &Outline, pair: Option<(u32, u32)>) -> bool
     ensures { result ≡ is_bare outline.now pair }
 {

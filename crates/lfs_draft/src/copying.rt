@@ -22,7 +22,7 @@ fn copied_body(alloc: Global, body: &OutlineBody) -> Result<OutlineBody, AllocEr
     })
 }
 
-/// A copy of an entry under another name. The caller owes a name of at most 1,022 bytes.
+/// A copy of an entry under another name.
 pub(crate) fn renamed(
     alloc: Global,
     entry: &OutlineEntry,

@@ -41,7 +41,7 @@ fn place_in(part: &mut OutlinePart, entry: OutlineEntry) -> Result<(), AllocErro
     Ok(())
 }
 
-/// Takes the entries of a name out of a part, which is set where it had one. Takes no memory.
+/// Takes the entries of a name out of a part, which is set where it had one.
 fn take_out_of(part: &mut OutlinePart, name: &[u8])
     ensures { part.new ≡ touch (has_name name.now part.old) (without name.now) part.old }
 {
@@ -58,9 +58,9 @@ fn first_greater(parts: &[OutlinePart], name: &[u8]) -> Option<usize>
     parts.iter().position(|part| has_greater(part, name))
 }
 
-/// The place of the part where a name belongs: the first one that has a greater name, else the last one. The caller owes that names rise. Takes
-/// no time to speak of where the name comes last.
-fn home_among(parts: &[OutlinePart], name: &[u8]) -> usize
+/// The place of the part where a name belongs: the first one that has a greater name, else the last one. Takes no time to speak of where the
+/// name comes last.
+fn parent_among(parts: &[OutlinePart], name: &[u8]) -> usize
     requires some { 0 < length parts.now }
     requires rise { Rise (flat_map (λ p. p.entries) parts.now) }
     ensures { result ≡ unwrap_or (position (has_greater name.now) parts.now) (length parts.now - 1) }
@@ -73,14 +73,14 @@ fn home_among(parts: &[OutlinePart], name: &[u8]) -> usize
     first_greater(parts, name).unwrap_or(last)
 }
 
-/// Puts an entry into the part where its name belongs, which is set. The caller owes a part, and that names rise. Want of memory changes nothing.
+/// Puts an entry into the part where its name belongs, which is set. Want of memory changes nothing.
 fn link_among(parts: &mut Vec<OutlinePart>, entry: OutlineEntry) -> Result<(), AllocError>
     requires some { 0 < length parts.old.items }
     requires rise { Rise (flat_map (λ p. p.entries) parts.old.items) }
     ensures linked { OnOk result ((p : Part) (ps : List Part) → parts.old.items ≡ p ∷ ps → parts.new.items ≡ parts_of (link_parts entry p ps)) }
     ensures unchanged { OnErr result (parts.new.items ≡ parts.old.items) }
 {
-    let at = home_among(parts, &entry.name);
+    let at = parent_among(parts, &entry.name);
     place_in(&mut parts[at], entry)?;
     Ok(())
 }
@@ -94,8 +94,7 @@ fn belongs_first(directory: &OutlineDirectory, name: &[u8]) -> bool
     directory.parts.more.is_empty() || has_greater(&directory.parts.first, name)
 }
 
-/// Puts an entry into the part of a directory where its name belongs, which is set. The caller owes that its names rise. Want of memory changes
-/// nothing.
+/// Puts an entry into the part of a directory where its name belongs, which is set. Want of memory changes nothing.
 pub(crate) fn link_in(
     directory: &mut OutlineDirectory,
     entry: OutlineEntry,
@@ -112,7 +111,7 @@ pub(crate) fn link_in(
     Ok(())
 }
 
-/// Takes the entries of a name out of parts; each that had one is set. Takes no memory.
+/// Takes the entries of a name out of parts; each that had one is set.
 fn take_out_of_all(parts: &mut Vec<OutlinePart>, name: &[u8])
     ensures { parts.new.items ≡ map (λ p. touch (has_name name.now p) (without name.now) p) parts.old.items }
 {
@@ -121,7 +120,7 @@ fn take_out_of_all(parts: &mut Vec<OutlinePart>, name: &[u8])
     }
 }
 
-/// Takes the entries of a name out of a directory; each part that had one is set. Takes no memory.
+/// Takes the entries of a name out of a directory; each part that had one is set.
 pub(crate) fn unlink_in(directory: &mut OutlineDirectory, name: &[u8])
     ensures { directory.new ≡ unlink_in name.now directory.old }
 {
@@ -129,8 +128,7 @@ pub(crate) fn unlink_in(directory: &mut OutlineDirectory, name: &[u8])
     take_out_of_all(&mut directory.parts.more, name);
 }
 
-/// Changes the entry of a name of a part, which is set. The caller owes that no two entries have the name, and what
-/// `change_entry` asks. Want of memory changes nothing.
+/// Changes the entry of a name of a part, which is set. Want of memory changes nothing.
 fn change_in_part(
     alloc: Global,
     part: &mut OutlinePart,
@@ -147,8 +145,7 @@ fn change_in_part(
     Ok(())
 }
 
-/// The place of the first part that has an entry of a name. The caller owes that no two entries have it, so that it is sought in the last part
-/// first.
+/// The place of the first part that has an entry of a name.
 fn first_with(parts: &[OutlinePart], name: &[u8]) -> Option<usize>
     requires { count_by (is_named name.now) (flat_map (λ p. p.entries) parts.now) ≤ 1 }
     ensures { result ≡ position (has_name name.now) parts.now }
@@ -163,8 +160,7 @@ fn first_with(parts: &[OutlinePart], name: &[u8]) -> Option<usize>
     parts.iter().position(|part| has_name(part, name))
 }
 
-/// Changes the entry of a name in the part of some that has it, which is set. The caller owes what `change_in` asks. Want of
-/// memory changes nothing.
+/// Changes the entry of a name in the part of some that has it, which is set. Want of memory changes nothing.
 fn change_among(
     alloc: Global,
     parts: &mut Vec<OutlinePart>,
@@ -183,8 +179,7 @@ fn change_among(
     Ok(())
 }
 
-/// Changes the entry of a name of a directory; the part that has it is set. The caller owes that no two entries have the name,
-/// and what `change_entry` asks. Want of memory changes nothing.
+/// Changes the entry of a name of a directory; the part that has it is set. Want of memory changes nothing.
 pub(crate) fn change_in(
     alloc: Global,
     directory: &mut OutlineDirectory,
@@ -204,7 +199,7 @@ pub(crate) fn change_in(
     Ok(())
 }
 
-/// Sets a part. Takes no memory.
+/// Sets a part.
 pub(crate) fn touch(part: &mut OutlinePart)
     ensures { part.new ≡ touch true (λ es. es) part.old }
 {
@@ -229,7 +224,7 @@ pub(crate) fn touch_last(directory: &mut OutlineDirectory)
     touch_last_part(&mut parts.first, &mut parts.more);
 }
 
-/// Sets a part, which takes up a delta. Takes no memory.
+/// Sets a part, which takes up a delta.
 fn absorb_into(part: &mut OutlinePart, delta: &Delta)
     ensures { part.new ≡ taking_up delta.now part.old }
 {
@@ -255,7 +250,7 @@ fn absorb_in(directory: &mut OutlineDirectory, delta: &Delta)
     absorb_last(&mut parts.first, &mut parts.more, delta);
 }
 
-/// The deltas of parts together. Takes no memory.
+/// The deltas of parts together.
 fn delta_of_parts(parts: &[OutlinePart]) -> Delta
     ensures { result ≡ delta_of parts.now }
 {
@@ -266,7 +261,7 @@ fn delta_of_parts(parts: &[OutlinePart]) -> Delta
     delta
 }
 
-/// Sets the last part of a directory, which takes up the deltas of one that goes. Takes no memory.
+/// Sets the last part of a directory, which takes up the deltas of one that goes.
 pub(crate) fn absorb(directory: &mut OutlineDirectory, gone: &OutlineDirectory)
     ensures { directory.new ≡ absorb directory.old gone.now }
 {

@@ -11,13 +11,13 @@ ghost use Rattle.lfs_command.specs.AskedFor.{named_command};
 ghost use Rattle.lfs_command.specs.Command.{Grow, Mkdir, Mv, Put, Rm, RmAttr, SetAttr};
 ghost use Rattle.lfs_draft.specs.Editable.{IsEditable, NamesRise};
 ghost use Rattle.lfs_law.specs.EditedOutline.{edited_outline};
-ghost use Rattle.lfs_command.specs.Home.{home_of};
-ghost use Rattle.lfs_law.specs.HomeChecks.{home_checks};
+ghost use Rattle.lfs_command.specs.Parent.{parent_of};
+ghost use Rattle.lfs_law.specs.ParentChecks.{parent_checks};
 ghost use Rattle.lfs_command.specs.Supplies.{new_body, nothing};
 ghost use Rattle.lfs_command.specs.Verdict.{first_refusal, last_length};
 
 use crate::entry_change::EntryChange;
-use crate::home::{Home, home_of};
+use crate::parent::{Parent, parent_of};
 use crate::supplies::Supplies;
 use crate::thread_changes::{make_directory, move_entry, put_file, remove, target_of};
 use crate::thread_edit::{change, touch_first};
@@ -26,16 +26,16 @@ use lfs_fs::{Outline, OutlineBody};
 use lfs_meta::{remove_attribute, set_attribute};
 use std::alloc::{AllocError, Global};
 
-/// Where the last name of a path belongs to. The caller owes that no check refuses that, and that names rise.
-pub(crate) fn home<'a>(outline: &Outline, path: &[&'a [u8]]) -> Home<'a>
-    requires unrefused { first_refusal (home_checks outline.now (map (λ n. n.now) path.now)) ≡ None }
+/// Where the last name of a path belongs to.
+pub(crate) fn parent<'a>(outline: &Outline, path: &[&'a [u8]]) -> Parent<'a>
+    requires unrefused { first_refusal (parent_checks outline.now (map (λ n. n.now) path.now)) ≡ None }
     requires rise { NamesRise outline.now.directories }
-    ensures home { home_of outline.now (map (λ n. n.now) path.now) ≡ Some (result.pair, result.name.now) }
+    ensures parent { parent_of outline.now (map (λ n. n.now) path.now) ≡ Some (result.pair, result.name.now) }
     ensures entry { entry_at outline.now (map (λ n. n.now) path.now) ≡ entry_in outline.now.directories result.pair result.name.now }
     ensures len { last_length (map (λ n. n.now) path.now) ≡ length result.name.now }
 {
-    match home_of(outline, path) {
-        Ok(home) => home,
+    match parent_of(outline, path) {
+        Ok(parent) => parent,
         Err(_) => unreachable!(),
     }
 }
@@ -50,12 +50,12 @@ fn mkdir(
     requires { IsEditable outline.old (Mkdir (map (λ n. n.now) path.now)) }
     ensures { OnOk result (outline.new ≡ edited_outline outline.old (Mkdir (map (λ n. n.now) path.now)) supplies) }
 {
-    let home = home(outline, path);
-    make_directory(alloc, &mut outline.directories, home, supplies.pair)?;
+    let parent = parent(outline, path);
+    make_directory(alloc, &mut outline.directories, parent, supplies.pair)?;
     Ok(())
 }
 
-/// Where a file's contents are put: into its entry, or into the blocks of some supplies. The caller owes fewer than 2^32 bytes.
+/// Where a file's contents are put: into its entry, or into the blocks of some supplies.
 fn new_body(
     alloc: Global,
     size: u32,
@@ -87,20 +87,20 @@ fn put(
     requires { IsEditable outline.old (Put (map (λ n. n.now) path.now) bytes.now) }
     ensures { OnOk result (outline.new ≡ edited_outline outline.old (Put (map (λ n. n.now) path.now) bytes.now) supplies) }
 {
-    let home = home(outline, path);
+    let parent = parent(outline, path);
     let body = new_body(alloc, outline.size, bytes, supplies)?;
-    put_file(alloc, &mut outline.directories, home, body)?;
+    put_file(alloc, &mut outline.directories, parent, body)?;
     Ok(())
 }
 
-/// Removes a file or a directory without entries. Takes no memory.
+/// Removes a file or a directory without entries.
 fn rm(outline: &mut Outline, path: &[&[u8]])
     requires { IsEditable outline.old (Rm (map (λ n. n.now) path.now)) }
     ensures { outline.new ≡ edited_outline outline.old (Rm (map (λ n. n.now) path.now)) nothing }
 {
-    let home = home(outline, path);
-    let leads_to = target_of(&outline.directories, home);
-    remove(&mut outline.directories, home, leads_to);
+    let parent = parent(outline, path);
+    let leads_to = target_of(&outline.directories, parent);
+    remove(&mut outline.directories, parent, leads_to);
 }
 
 /// Moves what is at a path.
@@ -108,8 +108,8 @@ fn mv(alloc: Global, outline: &mut Outline, from: &[&[u8]], to: &[&[u8]]) -> Res
     requires { IsEditable outline.old (Mv (map (λ n. n.now) from.now) (map (λ n. n.now) to.now)) }
     ensures { OnOk result (outline.new ≡ edited_outline outline.old (Mv (map (λ n. n.now) from.now) (map (λ n. n.now) to.now)) nothing) }
 {
-    let source = home(outline, from);
-    let target = home(outline, to);
+    let source = parent(outline, from);
+    let target = parent(outline, to);
     move_entry(alloc, &mut outline.directories, source, target)?;
     Ok(())
 }
@@ -130,13 +130,13 @@ fn set_attr(
         touch_first(&mut outline.directories);
         return Ok(());
     }
-    let home = home(outline, path);
+    let parent = parent(outline, path);
     let change_of = EntryChange::SetAttribute { kind, value };
     change(
         alloc,
         &mut outline.directories,
-        home.pair,
-        home.name,
+        parent.pair,
+        parent.name,
         change_of,
     )?;
     Ok(())
@@ -152,19 +152,19 @@ fn rm_attr(alloc: Global, outline: &mut Outline, path: &[&[u8]], kind: u8) -> Re
         touch_first(&mut outline.directories);
         return Ok(());
     }
-    let home = home(outline, path);
+    let parent = parent(outline, path);
     let change_of = EntryChange::RemoveAttribute { kind };
     change(
         alloc,
         &mut outline.directories,
-        home.pair,
-        home.name,
+        parent.pair,
+        parent.name,
         change_of,
     )?;
     Ok(())
 }
 
-/// Gives the image so many blocks. Takes no memory.
+/// Gives the image so many blocks.
 fn grow(outline: &mut Outline, count: u32)
     ensures { outline.new ≡ edited_outline outline.old (Grow count) nothing }
 {
@@ -172,10 +172,7 @@ fn grow(outline: &mut Outline, count: u32)
     touch_first(&mut outline.directories);
 }
 
-/// What a command makes of an outline with these supplies. The caller owes a sound outline on which no check refuses the command.
-/// Where memory is wanting, the outline is of no use.
-///
-/// Source: own.
+/// What a command makes of an outline with these supplies. Where memory is wanting, the outline is of no use.
 pub fn edit(
     alloc: Global,
     outline: &mut Outline,

@@ -18,7 +18,7 @@ pub(crate) enum EntryChange<'a> {
     RemoveAttribute { kind: u8 },
 }
 
-/// Changes an entry. The caller owes a body and a value that fit into tags. Want of memory changes nothing.
+/// Changes an entry. Want of memory changes nothing.
 pub(crate) fn change_entry(
     alloc: Global,
     entry: &mut OutlineEntry,

@@ -32,7 +32,7 @@ pub(crate) fn place(entries: &mut Vec<OutlineEntry>, entry: OutlineEntry) -> Res
     Ok(())
 }
 
-/// Takes the entries of a name out. Takes no memory.
+/// Takes the entries of a name out.
 pub(crate) fn take_out(entries: &mut Vec<OutlineEntry>, name: &[u8])
     ensures { entries.new.items ≡ without name.now entries.old.items }
 {
@@ -50,8 +50,7 @@ fn index_of(entries: &[OutlineEntry], name: &[u8]) -> Option<usize>
     entries.iter().position(|entry| entry.is_named(name))
 }
 
-/// Changes the entry of a name. The caller owes that no two entries have it, and what `change_entry` asks. Want of memory
-/// changes nothing.
+/// Changes the entry of a name. Want of memory changes nothing.
 pub(crate) fn change_named(
     alloc: Global,
     entries: &mut Vec<OutlineEntry>,

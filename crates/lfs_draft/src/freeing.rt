@@ -11,9 +11,9 @@ ghost use Rattle.lfs_command.specs.Freed.{content_uses, folder_uses, freed_uses,
 ghost use Rattle.lfs_command.specs.Verdict.{first_refusal};
 ghost use Rattle.lfs_draft.specs.Editable.{IsEditable, NamesRise};
 ghost use Rattle.lfs_draft.specs.Freeing.{ListsMore};
-ghost use Rattle.lfs_law.specs.HomeChecks.{home_checks};
+ghost use Rattle.lfs_law.specs.ParentChecks.{parent_checks};
 
-use crate::editing::home;
+use crate::editing::parent;
 use crate::last_names::entry_in;
 use lfs_command::{Command, Named};
 use lfs_fs::{Outline, OutlineBody, OutlineDirectory, OutlineEntry, OutlinePart, directory_at};
@@ -93,19 +93,19 @@ fn list_target(
     Ok(())
 }
 
-/// The entry at a path, if there is one. The caller owes that no check refuses the walk there, and that names rise. Takes no memory.
+/// The entry at a path, if there is one.
 fn entry_at<'a>(outline: &'a Outline, path: &[&[u8]]) -> Option<&'a OutlineEntry>
-    requires unrefused { first_refusal (home_checks outline.now (map (λ n. n.now) path.now)) ≡ None }
+    requires unrefused { first_refusal (parent_checks outline.now (map (λ n. n.now) path.now)) ≡ None }
     requires rise { NamesRise outline.now.directories }
     ensures { option_map (λ e. e.now) result ≡ entry_at outline.now (map (λ n. n.now) path.now) }
 {
-    let home = home(outline, path);
-    entry_in(&outline.directories, home.pair, home.name)
+    let parent = parent(outline, path);
+    entry_in(&outline.directories, parent.pair, parent.name)
 }
 
-/// Lists the blocks of the file at a path, if there is one. The caller owes that no check refuses the walk there, and that names rise.
+/// Lists the blocks of the file at a path, if there is one.
 fn list_replaced(blocks: &mut Vec<u32>, outline: &Outline, path: &[&[u8]]) -> Result<(), AllocError>
-    requires unrefused { first_refusal (home_checks outline.now (map (λ n. n.now) path.now)) ≡ None }
+    requires unrefused { first_refusal (parent_checks outline.now (map (λ n. n.now) path.now)) ≡ None }
     requires rise { NamesRise outline.now.directories }
     ensures { OnOk result (ListsMore blocks.old.items blocks.new.items (λ b. content_uses outline.now (map (λ n. n.now) path.now) b)) }
 {
@@ -116,9 +116,9 @@ fn list_replaced(blocks: &mut Vec<u32>, outline: &Outline, path: &[&[u8]]) -> Re
     Ok(())
 }
 
-/// Lists the blocks of the file or the directory at a path, if there is one. The caller owes that no check refuses the walk there, and that names rise.
+/// Lists the blocks of the file or the directory at a path, if there is one.
 fn list_removed(blocks: &mut Vec<u32>, outline: &Outline, path: &[&[u8]]) -> Result<(), AllocError>
-    requires unrefused { first_refusal (home_checks outline.now (map (λ n. n.now) path.now)) ≡ None }
+    requires unrefused { first_refusal (parent_checks outline.now (map (λ n. n.now) path.now)) ≡ None }
     requires rise { NamesRise outline.now.directories }
     ensures { OnOk result (ListsMore blocks.old.items blocks.new.items (λ b. content_uses outline.now (map (λ n. n.now) path.now) b + target_uses outline.now (map (λ n. n.now) path.now) b)) }
 {
@@ -150,10 +150,7 @@ fn list_freed(
     }
 }
 
-/// The blocks that a command gives back: those of the contents that it removes or replaces, and of a directory that it removes. The
-/// caller owes what `edit` asks.
-///
-/// Source: own.
+/// The blocks that a command gives back: those of the contents that it removes or replaces, and of a directory that it removes.
 pub fn freed_blocks(
     alloc: Global,
     outline: &Outline,

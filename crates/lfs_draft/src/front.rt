@@ -9,31 +9,28 @@ ghost use Rattle.lfs_law.specs.EditedOutline.{edited_outline};
 ghost use Rattle.lfs_draft.specs.Editable.{BeginOnce, IsEditable, NamesRise};
 ghost use Rattle.lfs_draft.specs.Front.{IsFrontOf};
 
-use crate::home::home_of;
+use crate::parent::parent_of;
 use crate::thread_edit::directory_of;
 use lfs_command::{Command, Named};
 use lfs_fs::Outline;
 
-/// How many directories there are up to the one behind that of a path's last name; two where there is no such name. The caller owes that names
-/// rise, and that each directory has a pair of its own.
+/// How many directories there are up to the one behind that of a path's last name; two where there is no such name.
 fn front_of(outline: &Outline, path: &[&[u8]]) -> usize
     requires rise { NamesRise outline.now.directories }
     requires once { BeginOnce outline.now.directories }
     ensures { IsFrontOf outline.now (map (λ n. n.now) path.now) result }
 {
-    let Ok(home) = home_of(outline, path) else {
+    let Ok(parent) = parent_of(outline, path) else {
         return 2;
     };
-    match directory_of(&outline.directories, home.pair) {
+    match directory_of(&outline.directories, parent.pair) {
         Some(at) => at + 2,
         None => 2,
     }
 }
 
 /// How many directories in front a command may set parts of: it sets none of those behind. Where files and directories are made in the order of
-/// their paths they are few: as many as are open, and one more. The caller owes what `edit` asks. Takes no memory.
-///
-/// Source: own.
+/// their paths they are few: as many as are open, and one more.
 pub fn count_in_front(outline: &Outline, command: &Named<'_>) -> usize
     requires { IsEditable outline.now (named_command command.now) }
     ensures { (s : Supplies) → IsClean outline.now

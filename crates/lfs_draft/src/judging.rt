@@ -150,9 +150,6 @@ fn judge_grow(outline: &Outline, count: u32) -> Result<(), Refusal>
 }
 
 /// Whether a command is refused on an outline, by the first of its checks that refuses; the room that it takes isn't looked at.
-/// The caller owes that the names of each directory rise, as they do in a sound outline. Takes no memory.
-///
-/// Source: own.
 pub fn judge(outline: &Outline, command: &Named<'_>) -> Result<(), Refusal>
     requires { NamesRise outline.now.directories }
     ensures unrefused { OnOk result (first_refusal (checks outline.now (named_command command.now)) ≡ None) }

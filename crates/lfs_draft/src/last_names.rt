@@ -34,8 +34,7 @@ pub(crate) fn last_part(directory: &OutlineDirectory) -> &OutlinePart
     }
 }
 
-/// Whether the last entry of a directory's last part comes before a name; then all entries of the directory do. The caller owes that its
-/// names rise.
+/// Whether the last entry of a directory's last part comes before a name; then all entries of the directory do.
 pub(crate) fn comes_last(directory: &OutlineDirectory, name: &[u8]) -> bool
     requires { Rise (entries directory.now) }
     ensures { result ≡ true → All (λ e. precedes e.name name.now ≡ true) (entries directory.now) }
@@ -44,7 +43,7 @@ pub(crate) fn comes_last(directory: &OutlineDirectory, name: &[u8]) -> bool
     ends_before(last_part(directory), name)
 }
 
-/// The last entry of a directory's last part, where it has a name. The caller owes that the directory's names rise.
+/// The last entry of a directory's last part, where it has a name.
 fn last_named<'a>(directory: &'a OutlineDirectory, name: &[u8]) -> Option<&'a OutlineEntry>
     requires { Rise (entries directory.now) }
     ensures { IfSome result (λ e. find (is_named name.now) (entries directory.now) ≡ Some e.now) }
@@ -57,8 +56,8 @@ fn last_named<'a>(directory: &'a OutlineDirectory, name: &[u8]) -> Option<&'a Ou
     }
 }
 
-/// The entry under a name in the directory of a pair, the lesser block first. The caller owes that the names of each directory rise. Takes no
-/// memory, and no time to speak of where the name comes last or is new behind all others.
+/// The entry under a name in the directory of a pair, the lesser block first. Takes no time to speak of where the name comes last or is new
+/// behind all others.
 pub(crate) fn entry_in<'a>(
     directories: &'a [OutlineDirectory],
     pair: (u32, u32),

@@ -10,20 +10,20 @@ ghost use Rattle.lfs_command.specs.DirectoryEdit.{has_name};
 ghost use Rattle.lfs_command.specs.Leading.{leading_pair, pair_in, path_of};
 
 use crate::directory_edit::has_name;
-use crate::home::home_of;
 use crate::last_names::{comes_last, last_part};
+use crate::parent::parent_of;
 use lfs_command::{Command, Named};
 use lfs_fs::{Outline, OutlineDirectory, OutlinePart, directory_at, names_are_ordered};
 
-/// The first of these parts that has an entry of a name. Takes no memory.
+/// The first of these parts that has an entry of a name.
 fn part_among<'a>(parts: &'a [OutlinePart], name: &[u8]) -> Option<&'a OutlinePart>
     ensures { option_map (λ p. p.now) result ≡ find (has_name name.now) parts.now }
 {
     parts.iter().find(|part| has_name(part, name))
 }
 
-/// The first part of a directory that has an entry of a name. The caller owes that its names rise. Takes no memory, and no time to speak of where
-/// the name is in the last part, or new behind all others.
+/// The first part of a directory that has an entry of a name. Takes no time to speak of where the name is in the last part, or new behind all
+/// others.
 fn part_in<'a>(directory: &'a OutlineDirectory, name: &[u8]) -> Option<&'a OutlinePart>
     requires { Rise (entries directory.now) }
     ensures { option_map (λ p. p.now) result ≡ find (has_name name.now) (parts directory.now) }
@@ -43,7 +43,7 @@ fn part_in<'a>(directory: &'a OutlineDirectory, name: &[u8]) -> Option<&'a Outli
     }
 }
 
-/// The pair of the part of a directory that has an entry of a name. The caller owes that its names rise. Takes no memory.
+/// The pair of the part of a directory that has an entry of a name.
 fn pair_in(directory: &OutlineDirectory, name: &[u8]) -> Option<(u32, u32)>
     requires { Rise (entries directory.now) }
     ensures { result ≡ pair_in name.now directory.now }
@@ -67,15 +67,12 @@ fn path_of<'b, 'a>(command: &'b Named<'a>) -> &'b [&'a [u8]]
     }
 }
 
-/// The pair of the part that has the entry at a command's path; none where nothing is there. The caller owes that the names of each directory
-/// rise. Takes no memory.
-///
-/// Source: own.
+/// The pair of the part that has the entry at a command's path; none where nothing is there.
 pub fn leading_pair(outline: &Outline, command: &Named<'_>) -> Option<(u32, u32)>
     requires { NamesRise outline.now.directories }
     ensures { result ≡ leading_pair outline.now (named_command command.now) }
 {
-    let home = home_of(outline, path_of(command)).ok()?;
-    let directory = directory_at(&outline.directories, home.pair)?;
-    pair_in(directory, home.name)
+    let parent = parent_of(outline, path_of(command)).ok()?;
+    let directory = directory_at(&outline.directories, parent.pair)?;
+    pair_in(directory, parent.name)
 }

@@ -6,9 +6,7 @@ ghost use Rattle.lfs_draft.specs.Reaches.{Reaches};
 use lfs_fs::{Outline, ROOT, entry_in};
 
 /// How many of these names lead to something, from the root on: all of them, or those before the first one behind which nothing
-/// is. Takes no memory.
-///
-/// Source: own.
+/// is.
 pub fn reach(outline: &Outline, names: &[&[u8]]) -> usize
     ensures { Reaches outline.now (map (λ n. n.now) names.now) result }
 {

@@ -5,34 +5,31 @@ ghost use Rattle.std.specs.Option.{option_map};
 ghost use Rattle.lfs_fs.specs.Tree.{entry_at, tree};
 ghost use Rattle.lfs_command.specs.Equation.{attributes_of};
 ghost use Rattle.lfs_draft.specs.Editable.{NamesRise};
-ghost use Rattle.lfs_law.specs.HomeChecks.{entry_checks, home_checks, there_checks};
+ghost use Rattle.lfs_law.specs.ParentChecks.{entry_checks, parent_checks, there_checks};
 ghost use Rattle.lfs_command.specs.Verdict.{first_refusal, last_length};
 
-use crate::home::home_of;
 use crate::last_names::entry_in;
+use crate::parent::parent_of;
 use lfs_command::{Refusal, last_of};
 use lfs_fs::{Outline, OutlineEntry};
 use lfs_meta::Attribute;
 
 /// The entry at a path, if there is one: `IsRoot` where the path is the root's, else what the walk to its last name is refused
-/// for. The caller owes that names rise. Takes no memory.
+/// for.
 pub(crate) fn entry_at<'a>(
     outline: &'a Outline,
     names: &[&[u8]],
 ) -> Result<Option<&'a OutlineEntry>, Refusal>
     requires { NamesRise outline.now.directories }
     ensures at { IfOk result (λ entry. option_map (λ e. e.now) entry ≡ entry_at outline.now (map (λ n. n.now) names.now)) }
-    ensures unrefused { OnOk result (first_refusal (home_checks outline.now (map (λ n. n.now) names.now)) ≡ None) }
-    ensures refused { IfErr result (λ r. first_refusal (home_checks outline.now (map (λ n. n.now) names.now)) ≡ Some r) }
+    ensures unrefused { OnOk result (first_refusal (parent_checks outline.now (map (λ n. n.now) names.now)) ≡ None) }
+    ensures refused { IfErr result (λ r. first_refusal (parent_checks outline.now (map (λ n. n.now) names.now)) ≡ Some r) }
 {
-    let home = home_of(outline, names)?;
-    Ok(entry_in(&outline.directories, home.pair, home.name))
+    let parent = parent_of(outline, names)?;
+    Ok(entry_in(&outline.directories, parent.pair, parent.name))
 }
 
-/// The entry that is at a path: refused as `entry_at` is, else `NotFound` where there is none. The caller owes that the names of each
-/// directory rise. Takes no memory.
-///
-/// Source: own.
+/// The entry that is at a path: refused as `entry_at` is, else `NotFound` where there is none.
 pub fn entry_there<'a>(outline: &'a Outline, names: &[&[u8]]) -> Result<&'a OutlineEntry, Refusal>
     requires { NamesRise outline.now.directories }
     ensures there { IfOk result (λ entry. entry_at outline.now (map (λ n. n.now) names.now) ≡ Some entry.now) }
@@ -46,7 +43,7 @@ pub fn entry_there<'a>(outline: &'a Outline, names: &[&[u8]]) -> Result<&'a Outl
 }
 
 /// The attributes of what is at a path, which may be the root: what the walk there is refused for, else `NotFound` where
-/// nothing is there. The caller owes that names rise. Takes no memory.
+/// nothing is there.
 pub(crate) fn attributes_at<'a>(
     outline: &'a Outline,
     names: &[&[u8]],
@@ -63,7 +60,7 @@ pub(crate) fn attributes_at<'a>(
     Ok(&entry.attributes)
 }
 
-/// The length of a path's last name; the root has none, which counts as nothing. Takes no memory.
+/// The length of a path's last name; the root has none, which counts as nothing.
 pub(crate) fn last_length(names: &[&[u8]]) -> usize
     ensures { result ≡ last_length (map (λ n. n.now) names.now) }
 {

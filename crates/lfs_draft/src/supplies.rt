@@ -3,8 +3,6 @@
 use std::marker::Model;
 
 /// The blocks that a command takes for what it makes: those of a file's contents in file order, and the pair of a new directory.
-///
-/// Source: own.
 #[derive(Drop)]
 pub struct Supplies {
     /// The blocks of a file's contents.

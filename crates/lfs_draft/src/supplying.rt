@@ -28,8 +28,6 @@ fn least_pair(blocks: &[u32]) -> (u32, u32)
 
 /// What a command takes for what it makes: the `count` least free blocks for a file's contents, and the two least for a directory's
 /// pair; where they are fewer, what there is.
-///
-/// Source: own.
 pub fn least_supplies(alloc: Global, used: &UsedBlocks, count: u32) -> Result<Supplies, AllocError>
     ensures { IfOk result (λ supplies. supplies ≡ record { blocks = take count (unused used.now); pair = least_pair (unused used.now) }) }
 {

@@ -15,15 +15,13 @@ ghost use Rattle.lfs_command.specs.ThreadEdit.{add_after, link, unlink};
 
 use crate::copying::renamed;
 use crate::entry_change::EntryChange;
-use crate::home::Home;
 use crate::last_names::entry_in;
+use crate::parent::Parent;
 use crate::thread_edit::{add_after, change, drop_directory, link, unlink};
 use lfs_fs::{Delta, OutlineBody, OutlineDirectory, OutlineEntry, OutlinePart};
 use std::alloc::{AllocError, Global};
 
-/// An entry without attributes. The caller owes a name of at most 1,022 bytes, and a body that fits into a tag.
-///
-/// Source: own.
+/// An entry without attributes.
 pub fn new_entry(alloc: Global, name: &[u8], body: OutlineBody) -> Result<OutlineEntry, AllocError>
     requires name { length name.now < 1023 }
     requires body { BodyFits (stored_body (outline_body_held body)) }
@@ -53,18 +51,18 @@ fn empty_directory(alloc: Global, pair: (u32, u32)) -> Result<OutlineDirectory, 
 pub(crate) fn make_directory(
     alloc: Global,
     directories: &mut Vec<OutlineDirectory>,
-    home: Home<'_>,
+    parent: Parent<'_>,
     pair: (u32, u32),
 ) -> Result<(), AllocError>
     requires once { BeginOnce directories.old.items }
     requires rise { NamesRise directories.old.items }
-    requires name { length home.name.now < 1023 }
+    requires name { length parent.name.now < 1023 }
     ensures { OnOk result (directories.new.items
-        ≡ add_after home.entry.pair (empty_directory pair) (link home.entry.pair (new_entry home.entry.name.now (Directory_at pair)) directories.old.items)) }
+        ≡ add_after parent.entry.pair (empty_directory pair) (link parent.entry.pair (new_entry parent.entry.name.now (Directory_at pair)) directories.old.items)) }
 {
-    let entry = new_entry(alloc, home.name, OutlineBody::Directory(pair.0, pair.1))?;
-    link(directories, home.pair, entry)?;
-    add_after(directories, home.pair, empty_directory(alloc, pair)?)?;
+    let entry = new_entry(alloc, parent.name, OutlineBody::Directory(pair.0, pair.1))?;
+    link(directories, parent.pair, entry)?;
+    add_after(directories, parent.pair, empty_directory(alloc, pair)?)?;
     Ok(())
 }
 
@@ -72,81 +70,80 @@ pub(crate) fn make_directory(
 pub(crate) fn put_file(
     alloc: Global,
     directories: &mut Vec<OutlineDirectory>,
-    home: Home<'_>,
+    parent: Parent<'_>,
     body: OutlineBody,
 ) -> Result<(), AllocError>
     requires once { BeginOnce directories.old.items }
     requires named { NamedOnce directories.old.items }
     requires rise { NamesRise directories.old.items }
-    requires name { length home.name.now < 1023 }
+    requires name { length parent.name.now < 1023 }
     requires body { BodyFits (stored_body (outline_body_held body)) }
     ensures { OnOk result ((v : Volume) → v.directories ≡ directories.old.items
         → with_directories v directories.new.items
-        ≡ put_file v (outline_body_held body) (Some (home.entry.pair, home.entry.name.now)) (entry_in directories.old.items home.entry.pair home.entry.name.now)) }
+        ≡ put_file v (outline_body_held body) (Some (parent.entry.pair, parent.entry.name.now)) (entry_in directories.old.items parent.entry.pair parent.entry.name.now)) }
 {
-    if entry_in(directories, home.pair, home.name).is_some() {
+    if entry_in(directories, parent.pair, parent.name).is_some() {
         change(
             alloc,
             directories,
-            home.pair,
-            home.name,
+            parent.pair,
+            parent.name,
             EntryChange::Body(body),
         )?;
     } else {
-        let entry = new_entry(alloc, home.name, body)?;
-        link(directories, home.pair, entry)?;
+        let entry = new_entry(alloc, parent.name, body)?;
+        link(directories, parent.pair, entry)?;
     }
     Ok(())
 }
 
-/// The directory that the entry of a name leads to. The caller owes that names rise. Takes no memory.
-pub(crate) fn target_of(directories: &[OutlineDirectory], home: Home<'_>) -> Option<(u32, u32)>
+/// The directory that the entry of a name leads to.
+pub(crate) fn target_of(directories: &[OutlineDirectory], parent: Parent<'_>) -> Option<(u32, u32)>
     requires { NamesRise directories.now }
-    ensures { result ≡ option_and_then target (entry_in directories.now home.entry.pair home.entry.name.now) }
+    ensures { result ≡ option_and_then target (entry_in directories.now parent.entry.pair parent.entry.name.now) }
 {
-    entry_in(directories, home.pair, home.name)?.target()
+    entry_in(directories, parent.pair, parent.name)?.target()
 }
 
-/// Takes the entry of a name out, with the directory that it leads to. Takes no memory.
+/// Takes the entry of a name out, with the directory that it leads to.
 pub(crate) fn remove(
     directories: &mut Vec<OutlineDirectory>,
-    home: Home<'_>,
+    parent: Parent<'_>,
     leads_to: Option<(u32, u32)>,
 )
     requires once { BeginOnce directories.old.items }
-    ensures { directories.new.items ≡ drop_target leads_to (unlink home.entry.pair home.entry.name.now directories.old.items) }
+    ensures { directories.new.items ≡ drop_target leads_to (unlink parent.entry.pair parent.entry.name.now directories.old.items) }
 {
-    unlink(directories, home.pair, home.name);
+    unlink(directories, parent.pair, parent.name);
     if let Some(pair) = leads_to {
         drop_directory(directories, pair);
     }
 }
 
-/// A copy of the entry of a name under another name. The caller owes that it is there, that names rise, and another name of at most 1,022 bytes.
+/// A copy of the entry of a name under another name.
 fn copied(
     alloc: Global,
     directories: &[OutlineDirectory],
-    home: Home<'_>,
+    parent: Parent<'_>,
     name: &[u8],
 ) -> Result<OutlineEntry, AllocError>
     requires rise { NamesRise directories.now }
-    requires there { (e : Entry) × (entry_in directories.now home.pair home.name.now ≡ Some e) }
+    requires there { (e : Entry) × (entry_in directories.now parent.pair parent.name.now ≡ Some e) }
     requires name { length name.now < 1023 }
-    ensures { IfOk result (λ copy. (e : Entry) → entry_in directories.now home.entry.pair home.entry.name.now ≡ Some e → copy ≡ renamed name.now e) }
+    ensures { IfOk result (λ copy. (e : Entry) → entry_in directories.now parent.entry.pair parent.entry.name.now ≡ Some e → copy ≡ renamed name.now e) }
 {
-    match entry_in(directories, home.pair, home.name) {
+    match entry_in(directories, parent.pair, parent.name) {
         Some(entry) => renamed(alloc, entry, name),
         None => unreachable!(),
     }
 }
 
-/// Takes the entry of a name out, and puts it under another name. The caller owes that it is there, that names rise, and another name of at
-/// most 1,022 bytes.
+/// Takes the entry of a name out, and puts it under another name.
 pub(crate) fn move_entry(
     alloc: Global,
     directories: &mut Vec<OutlineDirectory>,
-    from: Home<'_>,
-    to: Home<'_>,
+    from: Parent<'_>,
+    to: Parent<'_>,
 ) -> Result<(), AllocError>
     requires once { BeginOnce directories.old.items }
     requires rise { NamesRise directories.old.items }

@@ -23,8 +23,7 @@ pub(crate) fn directory_of(directories: &[OutlineDirectory], pair: (u32, u32)) -
         .position(|directory| directory.begins_at(pair))
 }
 
-/// Puts an entry into the directory of a pair. The caller owes that no two directories begin there, and that names rise. Want of memory changes
-/// nothing.
+/// Puts an entry into the directory of a pair. Want of memory changes nothing.
 pub(crate) fn link(
     directories: &mut Vec<OutlineDirectory>,
     pair: (u32, u32),
@@ -41,8 +40,7 @@ pub(crate) fn link(
     Ok(())
 }
 
-/// Takes the entries of a name out of the directory of a pair. The caller owes that no two directories begin there. Takes no
-/// memory.
+/// Takes the entries of a name out of the directory of a pair.
 pub(crate) fn unlink(directories: &mut Vec<OutlineDirectory>, pair: (u32, u32), name: &[u8])
     requires { count_by (begins_at pair) directories.old.items ≤ 1 }
     ensures { directories.new.items ≡ unlink pair name.now directories.old.items }
@@ -69,8 +67,7 @@ pub(crate) fn add_after(
     Ok(())
 }
 
-/// Changes the entry of a name in the directory of a pair. The caller owes that no two directories begin there, that no two
-/// entries of one have the name, and what `change_entry` asks. Want of memory changes nothing.
+/// Changes the entry of a name in the directory of a pair. Want of memory changes nothing.
 pub(crate) fn change(
     alloc: Global,
     directories: &mut Vec<OutlineDirectory>,
@@ -91,7 +88,7 @@ pub(crate) fn change(
 }
 
 /// Takes the directory of a pair out of the thread, unless it is the first; the last part before it is set, and takes up its
-/// deltas. The caller owes that no two directories begin there. Takes no memory.
+/// deltas.
 pub(crate) fn drop_directory(directories: &mut Vec<OutlineDirectory>, pair: (u32, u32))
     requires { count_by (begins_at pair) directories.old.items ≤ 1 }
     ensures { directories.new.items ≡ drop_directory pair directories.old.items }
@@ -105,14 +102,14 @@ pub(crate) fn drop_directory(directories: &mut Vec<OutlineDirectory>, pair: (u32
     }
 }
 
-/// Sets the first part of a directory. Takes no memory.
+/// Sets the first part of a directory.
 fn touch_first_part(directory: &mut OutlineDirectory)
     ensures { directory.new ≡ record { first = touch true (λ es. es) directory.old.first; more = directory.old.more } }
 {
     touch(&mut directory.parts.first);
 }
 
-/// Sets the first part of all, for the sake of the root's attributes. Takes no memory.
+/// Sets the first part of all, for the sake of the root's attributes.
 pub(crate) fn touch_first(directories: &mut Vec<OutlineDirectory>)
     ensures { directories.new.items ≡ touch_first directories.old.items }
 {

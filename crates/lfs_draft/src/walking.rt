@@ -15,8 +15,7 @@ use crate::last_names::entry_in;
 use lfs_command::Refusal;
 use lfs_fs::{OutlineDirectory, ROOT};
 
-/// The directory under a name in the directory of a pair: `NotFound` where nothing is there, `NotADirectory` where a file is. The caller
-/// owes that names rise.
+/// The directory under a name in the directory of a pair: `NotFound` where nothing is there, `NotADirectory` where a file is.
 fn step(
     directories: &[OutlineDirectory],
     pair: (u32, u32),
@@ -33,7 +32,7 @@ fn step(
 }
 
 /// The directory at a path, by its pair: `NotFound` where nothing is at a front of the path or at the path itself,
-/// `NotADirectory` where a file is. The caller owes that names rise.
+/// `NotADirectory` where a file is.
 pub(crate) fn walk(directories: &[OutlineDirectory], names: &[&[u8]]) -> Result<(u32, u32), Refusal>
     requires { NamesRise directories.now }
     ensures there { IfOk result (λ k. pair_at directories.now root (map (λ n. n.now) names.now) ≡ Some k) }

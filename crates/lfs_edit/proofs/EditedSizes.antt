@@ -8,7 +8,7 @@ use Rattle.lfs_fs.specs.Tree.{entry_at}
 use Rattle.lfs_fs.specs.Volume.{Volume}
 use Rattle.lfs_command.specs.Command.{Command, Mkdir, Put, Rm, Mv, SetAttr, RmAttr, Grow}
 use Rattle.lfs_command.specs.Edited.{edited, make_directory, move_entry, put_file, remove_entry, set_attributes}
-use Rattle.lfs_command.specs.Home.{home_of}
+use Rattle.lfs_command.specs.Parent.{parent_of}
 use Rattle.lfs_command.specs.Supplies.{Supplies, new_body}
 
 make_size : (v : Volume) (pair : Pair) (h : Option (Pair × Name)) → (make_directory v pair h).size ≡ v.size
@@ -36,10 +36,10 @@ set_size v f None = refl
 set_size v f (Some h) = refl
 
 pub edited_size : (v : Volume) (c : Command) (s : Supplies) → (edited v c s).size ≡ v.size
-edited_size v (Mkdir p) s = make_size v s.pair (home_of v p)
-edited_size v (Put p bytes) s = put_size v (new_body v s bytes) (home_of v p) (entry_at v p)
-edited_size v (Rm p) s = remove_size v (home_of v p) (entry_at v p)
-edited_size v (Mv p q) s = move_size v (home_of v p) (home_of v q) (entry_at v p)
-edited_size v (SetAttr p k value) s = set_size v (set_attribute k value) (home_of v p)
-edited_size v (RmAttr p k) s = set_size v (remove_attribute k) (home_of v p)
+edited_size v (Mkdir p) s = make_size v s.pair (parent_of v p)
+edited_size v (Put p bytes) s = put_size v (new_body v s bytes) (parent_of v p) (entry_at v p)
+edited_size v (Rm p) s = remove_size v (parent_of v p) (entry_at v p)
+edited_size v (Mv p q) s = move_size v (parent_of v p) (parent_of v q) (entry_at v p)
+edited_size v (SetAttr p k value) s = set_size v (set_attribute k value) (parent_of v p)
+edited_size v (RmAttr p k) s = set_size v (remove_attribute k) (parent_of v p)
 edited_size v (Grow n) s = refl

@@ -13,8 +13,8 @@ use Rattle.lfs_meta.specs.declared.tail.Tail.TheVariants.{End}
 use Rattle.lfs_meta.specs.Entry.{StoredEntry}
 use Rattle.lfs_meta.specs.Part.{StoredPart}
 use Rattle.lfs_meta.specs.LiveBlock.{stored_part_of}
-use Rattle.lfs_commit.specs.Spelling.{part_tags}
-use Rattle.lfs_commit.specs.Writing.{log_written, part_in, stored_part}
+use Rattle.lfs_pair.specs.Spelling.{part_tags}
+use Rattle.lfs_pair.specs.Writing.{log_written, part_in, stored_part}
 use Rattle.lfs_file.proofs.LaidByteLemmas.{IsBytes-fill}
 use Rattle.lfs_fs.specs.declared.limits.Limits.{Limits}
 use Rattle.lfs_fs.specs.Formatted.{empty_volume}
@@ -39,11 +39,11 @@ says size count limits said geometry fit =
     said (empty_volume size count limits []) (omega (arith, geometry.size_fits.1)) (omega (arith, geometry.count_fits.1)) fit
 
 -- the root block, and erased ones behind it
-whole : (size count : ℕ) (limits : Limits) (first : List ℕ) → LoneSuperblockMounts → MadeBytesSay → IsGeometry size count → IsLimits limits
+complete : (size count : ℕ) (limits : Limits) (first : List ℕ) → LoneSuperblockMounts → MadeBytesSay → IsGeometry size count → IsLimits limits
     → length first ≡ size → IsBytes first → first ≡ root_block size count limits
     → part_in first (replicate size 0xff) ≡ Some (root_part size count limits)
     → IsFormatted size count limits (first ++ replicate (size * count - size) 0xff)
-whole size count limits first lone said geometry fit len bytes is part =
+complete size count limits first lone said geometry fit len bytes is part =
     let rest : List ℕ = replicate (size * count - size) 0xff in
     let disk : Disk = disk_with size count (first ++ rest) in
     let words : List ℕ = superblock_bytes size count limits in
@@ -83,6 +83,6 @@ pub formatted : (size count : ℕ) (limits : Limits) (first bytes : List ℕ) (e
     → IsFormatted size count limits bytes
 formatted size count limits first bytes entry lone said geometry fit len first_bytes is block part entry_is =
     subst (IsFormatted size count limits) (sym (is ∙ ap (λ (k : ℕ). first ++ replicate (size * count - k) 0xff) len))
-    (whole size count limits first lone said geometry fit len first_bytes
+    (complete size count limits first lone said geometry fit len first_bytes
     (block ∙ ap (λ (e : StoredEntry). log_written 1 (part_tags (stored_part (e ∷ []) End (replicate 12 0))) (replicate size 0xff)) entry_is)
     (part ∙ ap (λ (e : StoredEntry). Some (stored_part (e ∷ []) End (replicate 12 0))) entry_is))

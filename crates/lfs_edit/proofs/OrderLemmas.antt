@@ -15,7 +15,7 @@ use Rattle.lfs_fs.specs.Volume.{Volume}
 use Rattle.lfs_command.specs.Command.{Command, Mkdir, Put, Rm, Mv, SetAttr, RmAttr, Grow}
 use Rattle.lfs_command.specs.Cut.{runs}
 use Rattle.lfs_command.specs.DirectoryEdit.{has_name}
-use Rattle.lfs_command.specs.Home.{home_of}
+use Rattle.lfs_command.specs.Parent.{parent_of}
 use Rattle.lfs_command.specs.Leading.{leading_pair, pair_among, pair_in, path_of}
 use Rattle.lfs_command.specs.Need.{dirty_parts}
 use Rattle.lfs_command.specs.Ordered.{blocks_chosen, blocks_made, blocks_of_pairs, leader_first, leader_of, overflowing, overflowing_led, pair_blocks}
@@ -26,7 +26,7 @@ use Rattle.lfs_law.proofs.OutlineCuts.{runs_outlined}
 use Rattle.lfs_law.proofs.OutlineDirectories.{find_directory_outlined, outlined_parts}
 use Rattle.lfs_law.proofs.OutlineEntries.{any_named_outlined, outlined_entries}
 use Rattle.lfs_law.proofs.OutlineRoom.{dirty_outlined}
-use Rattle.lfs_law.proofs.OutlinesFollow.{home_outlined}
+use Rattle.lfs_law.proofs.OutlinesFollow.{parent_outlined}
 
 -- ---- the part that leads
 
@@ -49,21 +49,21 @@ pair_found n d = ap (option_map (λ (p : Part). p.pair)) (part_found n (parts d)
     by None = refl
     by (Some p) = refl
 
-among_found : (ds : List Directory) (home : Pair × Name) → pair_among (outlined_directories ds) home ≡ pair_among ds home
-among_found ds home = ap (option_and_then (pair_in home.1)) (find_directory_outlined home.0 ds) ∙ by (find (begins_at home.0) ds)
+among_found : (ds : List Directory) (parent : Pair × Name) → pair_among (outlined_directories ds) parent ≡ pair_among ds parent
+among_found ds parent = ap (option_and_then (pair_in parent.1)) (find_directory_outlined parent.0 ds) ∙ by (find (begins_at parent.0) ds)
   where
-    by : (o : Option Directory) → option_and_then (pair_in home.1) (option_map outlined_directory o) ≡ option_and_then (pair_in home.1) o
+    by : (o : Option Directory) → option_and_then (pair_in parent.1) (option_map outlined_directory o) ≡ option_and_then (pair_in parent.1) o
     by None = refl
-    by (Some d) = pair_found home.1 d
+    by (Some d) = pair_found parent.1 d
 
 -- an outline leads as its volume
 pub leading_outlined : (v : Volume) (c : Command) → leading_pair (outlined v) c ≡ leading_pair v c
 leading_outlined v c =
-    ap (option_and_then (pair_among (outlined v).directories)) (home_outlined v (path_of c)) ∙ by (home_of v (path_of c))
+    ap (option_and_then (pair_among (outlined v).directories)) (parent_outlined v (path_of c)) ∙ by (parent_of v (path_of c))
   where
     by : (o : Option (Pair × Name)) → option_and_then (pair_among (outlined v).directories) o ≡ option_and_then (pair_among v.directories) o
     by None = refl
-    by (Some home) = among_found v.directories home
+    by (Some parent) = among_found v.directories parent
 
 -- ---- the parts that overflow
 

@@ -1,8 +1,6 @@
 //! What a command takes and gives back.
 
 /// The blocks that a command takes, in order, and those that it gives back.
-///
-/// Source: own.
 #[derive(Drop)]
 pub struct Carried {
     /// The blocks that it takes: those of a file's contents or of a new directory's pair, then those of new parts.

@@ -39,8 +39,7 @@ use lfs_fs::{Outline, UsedBlocks, names_are_ordered, outlines_are_sound};
 use lfs_law::{counts_grow, needs_are_small, tables_follow};
 use std::alloc::{AllocError, Global};
 
-/// The blocks that an outline uses, of so many. The caller owes that it is sound with so many, and that none has two uses. Where memory is
-/// wanting, the outline is of no use.
+/// The blocks that an outline uses, of so many. Where memory is wanting, the outline is of no use.
 fn used_of(alloc: Global, outline: &mut Outline, count: u32) -> Result<UsedBlocks, AllocError>
     requires { IsSound (with_count count outline.old) }
     ensures table { IfOk result (λ used. IsTableOf (with_count count outline.old) used) }
@@ -54,7 +53,7 @@ fn used_of(alloc: Global, outline: &mut Outline, count: u32) -> Result<UsedBlock
 }
 
 /// Makes the table of the blocks that an outline uses one of so many: where the outline has as many, it is, else they are counted anew.
-/// The caller owes that the outline is sound with so many. Where memory is wanting, the outline is of no use.
+/// Where memory is wanting, the outline is of no use.
 fn lengthen(
     alloc: Global,
     outline: &mut Outline,
@@ -73,8 +72,7 @@ fn lengthen(
     Ok(())
 }
 
-/// What a command makes of an outline with the least free blocks. The caller owes what `edit` asks, a block size that images have, and
-/// contents of fewer than 2^32 bytes. Where memory is wanting, the outline is of no use.
+/// What a command makes of an outline with the least free blocks. Where memory is wanting, the outline is of no use.
 fn edit_least(
     alloc: Global,
     outline: &mut Outline,
@@ -94,7 +92,7 @@ fn edit_least(
 }
 
 /// The least free blocks, as many as a command needs: `EntryTooLarge` where some part that is set has an entry that weighs more than a
-/// block has room for, else `NoSpace` where fewer are free. The caller owes what `needed` asks.
+/// block has room for, else `NoSpace` where fewer are free.
 fn needed_blocks(
     alloc: Global,
     outline: &Outline,
@@ -113,8 +111,8 @@ fn needed_blocks(
     used.lowest_free(alloc, need).ok_or(Refusal::Memory)
 }
 
-/// Cuts the parts of an outline that are set, into pairs of new blocks, of which the part of the pair `leading` gets the first. The caller
-/// owes what `choose` asks. Want of memory leaves the outline of no use.
+/// Cuts the parts of an outline that are set, into pairs of new blocks, of which the part of the pair `leading` gets the first. Want of
+/// memory leaves the outline of no use.
 fn cut_over(
     alloc: Global,
     outline: &mut Outline,
@@ -136,7 +134,7 @@ fn cut_over(
 }
 
 /// The pair that leads: that of the part that had the entry at the command's path before, else of the one that has it in the edited
-/// outline, the names of which rise. Takes no memory.
+/// outline, the names of which rise.
 fn leader(before: Option<(u32, u32)>, outline: &Outline, command: &Named<'_>) -> Option<(u32, u32)>
     requires { NamesRise outline.now.directories }
     ensures { result ≡ option_or before (leading_pair outline.now (named_command command.now)) }
@@ -171,8 +169,7 @@ fn cut_ready(
 
 /// Edits and cuts an outline on which no check refuses a command, those on room aside: `EntryTooLarge` where some part that it sets then has an
 /// entry that weighs more than a block has room for, else `NoSpace` where fewer blocks are free than it needs. The blocks that the command
-/// takes. The caller owes the table of the blocks that are used, of as many as the command leaves, and that the command sets parts of so many
-/// directories in front alone. Where it is refused, the outline is of no use. `Memory` says only that a growth was refused.
+/// takes. Where it is refused, the outline is of no use. `Memory` says only that a growth was refused.
 fn carry_over(
     alloc: Global,
     outline: &mut Outline,
@@ -237,7 +234,7 @@ pub(crate) fn carry_judged(
     })
 }
 
-/// Takes the marks of a command off an outline that is cut, and makes the table of used blocks that of what the command leaves. Takes no memory.
+/// Takes the marks of a command off an outline that is cut, and makes the table of used blocks that of what the command leaves.
 pub(crate) fn settle(outline: &mut Outline, used: &mut UsedBlocks, carried: &Carried)
     requires table { LeadsToTable used.old carried.now.blocks.items carried.now.gone.items (clean outline.old) }
     requires front { IsCleanFrom carried.now.front outline.old.directories }
@@ -250,10 +247,7 @@ pub(crate) fn settle(outline: &mut Outline, used: &mut UsedBlocks, carried: &Car
 }
 
 /// Carries out a command on the outline of a volume, and on the table of the blocks that it uses: they become those of what the command leaves.
-/// The caller owes a volume as images hold it, that they are its own, and names. Refusals are as of `carry_out`. Where it is refused, outline and
-/// table are of no use.
-///
-/// Source: own.
+/// Refusals are as of `carry_out`. Where it is refused, outline and table are of no use.
 pub fn carry(
     alloc: Global,
     outline: &mut Outline,

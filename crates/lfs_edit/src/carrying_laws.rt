@@ -12,7 +12,7 @@ use lfs_law::{
     tables_tell_new_pairs, written_volumes_are_held,
 };
 
-/// The laws that carrying a command out stands on. Takes no memory.
+/// The laws that carrying a command out stands on.
 pub(crate) fn carrying_laws()
     ensures { CarryingLaws }
 {
@@ -34,7 +34,7 @@ pub(crate) fn carrying_laws()
     outlines_follow();
 }
 
-/// The laws that writing the bytes of an image that is lengthened for a command stands on. Takes no memory.
+/// The laws that writing the bytes of an image that is lengthened for a command stands on.
 pub(crate) fn writing_laws()
     ensures { WritingLaws }
 {

@@ -47,8 +47,7 @@ fn carry_or_restore(
 }
 
 /// Carries out a command on an image, the outline of its volume and the table of the blocks that it uses: the patch of the image, and
-/// outline and table of the patched image. The caller owes that they are the image's. `BadPath` where a text spells no path; else the
-/// first of these that holds:
+/// outline and table of the patched image. `BadPath` where a text spells no path; else the first of these that holds:
 ///
 /// - to make a directory: the path is the root's (`IsRoot`); a front of it isn't there (`NotFound`) or is a file
 ///   (`NotADirectory`); something is at it (`Exists`); its last name is longer than the limit (`NameTooLong`);
@@ -67,8 +66,6 @@ fn carry_or_restore(
 ///   those that are added among them, than the command needs (`NoSpace`).
 ///
 /// `Memory` says only that a growth was refused; outline and table are of no use then. Any other refusal leaves them as they were.
-///
-/// Source: own.
 pub fn carry_out(
     alloc: Global,
     image: &Image,

@@ -8,10 +8,10 @@ ghost use Rattle.lfs_fs.specs.Superblock.{IsLimits};
 ghost use Rattle.lfs_edit.specs.Formatted.{IsFormatted};
 
 use lfs_command::Refusal;
-use lfs_commit::first_block;
 use lfs_fs::{Limits, NEW_LIMITS, lone_superblocks_mount};
 use lfs_law::made_superblocks_say_their_volume;
 use lfs_meta::Tail;
+use lfs_pair::first_block;
 use lfs_write::new_superblock;
 use std::alloc::{AllocError, Global};
 
@@ -27,8 +27,6 @@ fn filled(mut bytes: Vec<u8>, len: usize) -> Result<Vec<u8>, AllocError>
 
 /// A new image of `count` blocks of `size` bytes with the usual limits: names may have 255 bytes, files 2,147,483,647 and
 /// attributes 1,022. Else it is as `format_within` says.
-///
-/// Source: own.
 pub fn format(alloc: Global, size: u32, count: u32) -> Result<Vec<u8>, Refusal>
     requires { IsGeometry size count }
     ensures image { IfOk result (λ bytes. IsFormatted size count new_limits bytes.items) }
@@ -38,10 +36,7 @@ pub fn format(alloc: Global, size: u32, count: u32) -> Result<Vec<u8>, Refusal>
 }
 
 /// A new image of `count` blocks of `size` bytes with these limits, which mounts to the root alone. Block 0 holds revision 1
-/// and one commit of the superblock; all other bytes are 0xff. The caller owes a good geometry, and limits that an image may
-/// have: names and attributes of 1 to 1,022 bytes, and files of 1 to 2,147,483,647. The only refusal is `Memory`.
-///
-/// Source: own.
+/// and one commit of the superblock; all other bytes are 0xff. The only refusal is `Memory`.
 pub fn format_within(
     alloc: Global,
     size: u32,

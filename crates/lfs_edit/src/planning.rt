@@ -13,10 +13,7 @@ use lfs_fs::{Mounted, outline_of, outlines_are_sound};
 use lfs_law::outlines_are_judged_alike;
 use std::alloc::Global;
 
-/// The patch that carries out a command on an image, or why there is none, as `carry_out` has it. The caller owes that `mounted` is
-/// the mount of the image.
-///
-/// Source: own.
+/// The patch that carries out a command on an image, or why there is none, as `carry_out` has it.
 pub fn plan(
     alloc: Global,
     image: &Image,

@@ -1,7 +1,7 @@
 -- What a step is handed of a host, and which faults the host gives rise to (own).
 use Rattle.std.specs.Prelude.{ℕ, ◌≡◌, ◌⊎◌, ⊤, Bool, true, false, List, [], Option}
 use Rattle.std.specs.Borrow.{Bor}
-use Rattle.lfs_book.specs.Book.{most_journal}
+use Rattle.lfs_journal.specs.Book.{most_journal}
 use Rattle.lfs_fs.specs.Limits.{most_file}
 use Rattle.lfs_command.specs.declared.refusal.Refusal.TheVariants.{Memory}
 use Rattle.lfs_request.specs.declared.fault.Fault.{Fault}
@@ -76,7 +76,7 @@ LeavesInput step old new = reads_input step ≡ false → new.typed ≡ old.type
 -- a query with its other image in hand: the bytes of the file of that name
 abbrev pub HandsQuestion : Option Files → Query (Bor (List ℕ)) → Question → Type 0
 HandsQuestion files Check Check = ⊤
-HandsQuestion files (Ls path) (Ls same_path) = same_path ≡ path
+HandsQuestion files (Ls path digests) (Ls same_path same_digests) = (same_path ≡ path) × (same_digests ≡ digests)
 HandsQuestion files (Blocks sums) (Blocks same) = same ≡ sums
 HandsQuestion files (Cat path) (Cat text) = text ≡ path
 HandsQuestion files (Diff name size quiet) (Diff other other_size is_quiet) =

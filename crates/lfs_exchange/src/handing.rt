@@ -1,7 +1,7 @@
 //! What a step is handed of a host.
 
 ghost use Rattle.std.specs.Prelude.{◌≡◌, ◌⊎◌, IfErr, IfOk, OnOk, string_bytes, true};
-ghost use Rattle.lfs_book.specs.Book.{most_journal};
+ghost use Rattle.lfs_journal.specs.Book.{most_journal};
 ghost use Rattle.lfs_request.specs.declared.fault.Fault.TheVariants.{CannotRead, CannotWrite, Other};
 ghost use Rattle.lfs_request.specs.declared.other_fault.OtherFault.TheVariants as other;
 ghost use Rattle.lfs_fs.specs.Limits.{most_file};
@@ -15,11 +15,11 @@ ghost use Rattle.lfs_exchange.specs.Storing.{journal_name};
 use crate::names::journal_name;
 use crate::step_kind::StepKind;
 use lfs_block::MAX_IMAGE_LENGTH;
-use lfs_book::MAX_JOURNAL_LENGTH;
 use lfs_command::{Command, Refusal};
 use lfs_fs::MOST_FILE;
 use lfs_history::{Move, Source};
 use lfs_host::{Host, Lock, ReadFault};
+use lfs_journal::MAX_JOURNAL_LENGTH;
 use lfs_request::{Fault, OtherFault, Query};
 use std::alloc::Global;
 
@@ -38,8 +38,6 @@ pub struct Handed {
 
 /// What a step of a kind is handed of the files of the image of this name, which is locked for this run where it is to be changed or
 /// replaced: the image's file, from a place on, before its journal. Takes memory.
-///
-/// Source: own.
 pub fn taken_up<H: Host>(
     alloc: Global,
     host: &mut H,
@@ -113,9 +111,7 @@ fn must_be_there(kind: StepKind) -> Result<(), Fault>
     }
 }
 
-/// Refuses a name under which something is, where an image is asked for that is new. Takes no memory.
-///
-/// Source: own.
+/// Refuses a name under which something is, where an image is asked for that is new.
 pub fn spare<H: Host>(host: &mut H, is_new: bool, name: &str) -> Result<(), Fault>
     ensures missing { OnOk result (is_new ≡ true → IsMissing (H.known host.old).files name.now) }
     ensures same { OnOk result (H.known host.new ≡ H.known host.old) }
@@ -180,8 +176,6 @@ fn find_journal<H: Host>(alloc: Global, host: &mut H, name: &str) -> Result<Vec<
 }
 
 /// What is read for a step on a history: the contents that it puts, of a file of the host or on standard input. Takes memory.
-///
-/// Source: own.
 pub fn input_of<H: Host>(
     alloc: Global,
     host: &mut H,
@@ -203,8 +197,6 @@ pub fn input_of<H: Host>(
 }
 
 /// What is read of a source of contents: a file of the host, or standard input; nothing of bytes that are said. Takes memory.
-///
-/// Source: own.
 pub fn source_read<H: Host>(
     alloc: Global,
     host: &mut H,
@@ -223,8 +215,6 @@ pub fn source_read<H: Host>(
 }
 
 /// A query with its other image in hand, whose file is read. Takes memory.
-///
-/// Source: own.
 pub fn question_of<'a, H: Host>(
     alloc: Global,
     host: &mut H,
@@ -236,7 +226,7 @@ pub fn question_of<'a, H: Host>(
 {
     match *query {
         Query::Check => Ok(Query::Check),
-        Query::Ls { path } => Ok(Query::Ls { path }),
+        Query::Ls { path, digests } => Ok(Query::Ls { path, digests }),
         Query::Blocks { sums } => Ok(Query::Blocks { sums }),
         Query::Cat { path } => Ok(Query::Cat { path }),
         Query::Diff { other, size, quiet } => Ok(Query::Diff {
@@ -249,8 +239,6 @@ pub fn question_of<'a, H: Host>(
 }
 
 /// The contents of a file of the host, as those of one that is put. Takes memory.
-///
-/// Source: own.
 pub fn read_contents<H: Host>(alloc: Global, host: &mut H, name: &str) -> Result<Vec<u8>, Fault>
     ensures input { IfOk result (λ input. ReadsFile (H.known host.old).files name.now most_file input.items) }
     ensures refused { IfErr result (IsUnread (H.known host.new)) }
@@ -263,8 +251,6 @@ pub fn read_contents<H: Host>(alloc: Global, host: &mut H, name: &str) -> Result
 }
 
 /// What is left on standard input, as the contents of a file that is put. Takes memory.
-///
-/// Source: own.
 pub fn read_input<H: Host>(alloc: Global, host: &mut H) -> Result<Vec<u8>, Fault>
     ensures input { IfOk result (λ input. ReadsInput (H.known host.old).typed most_file input.items) }
     ensures refused { IfErr result (IsUnread (H.known host.new)) }
@@ -278,8 +264,6 @@ pub fn read_input<H: Host>(alloc: Global, host: &mut H) -> Result<Vec<u8>, Fault
 
 /// The bytes of the file of an image that another is compared with, or made of, from a place on, and one more than an image has where
 /// there are more. Takes memory.
-///
-/// Source: own.
 pub fn read_other<H: Host>(
     alloc: Global,
     host: &mut H,
@@ -298,8 +282,6 @@ pub fn read_other<H: Host>(
 }
 
 /// What a fault of reading is told as.
-///
-/// Source: own.
 pub fn fault_of_reading(fault: ReadFault) -> Fault
     ensures { result ≡ fault_of_reading fault }
 {

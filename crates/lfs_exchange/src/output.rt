@@ -2,13 +2,10 @@
 
 ghost use Rattle.std.specs.Prelude.{◌≡◌, false, true};
 
-use lfs_host::{Host, HostFault};
-use lfs_sink::Sink;
+use lfs_host::{Host, HostFault, Sink};
 
 /// A host's standard output as a sink: what went out is what the host printed. No write changes which host it is, its files, what is
 /// left on its standard input, what was made, which names are claimed, and that it has failed only where the host has refused something.
-///
-/// Source: own.
 #[derive(Drop)]
 pub struct Output<'a, H> {
     host: &'a mut H,
@@ -16,7 +13,7 @@ pub struct Output<'a, H> {
 }
 
 impl<'a, H: Host> Output<'a, H> {
-    /// The standard output of a host, which has not failed. Takes no memory.
+    /// The standard output of a host, which has not failed.
     pub fn new(host: &'a mut H) -> Output<'a, H>
         ensures sent { ⟦<Output<'a, H> as Sink>⟧.sent result ≡ (H.known host.old).printed }
         ensures failed { ⟦<Output<'a, H> as Sink>⟧.failed result ≡ false }

@@ -7,14 +7,11 @@ ghost use Rattle.lfs_host.specs.Scene.{HasRefused, KeepsAll, KeepsInput};
 ghost use Rattle.lfs_exchange.specs.Printing.{IsFlushed, PrintsBeginning};
 
 use crate::output::Output;
-use lfs_host::Host;
+use lfs_host::{Host, send};
 use lfs_request::Fault;
-use lfs_sink::send;
 
 /// Writes a text to standard output, and hands it on. Where that is refused, a beginning of it went out, or all of it that
 /// wasn't handed on.
-///
-/// Source: own.
 pub fn print<H: Host>(host: &mut H, text: &str) -> Result<(), Fault>
     ensures printed { MatchResult result (λ _. Appends (H.known host.old).printed (H.known host.new).printed text.now)
         (λ _. PrintsBeginning (H.known host.old).printed (H.known host.new).printed text.now) }
@@ -29,8 +26,6 @@ pub fn print<H: Host>(host: &mut H, text: &str) -> Result<(), Fault>
 }
 
 /// Hands on what was printed.
-///
-/// Source: own.
 pub fn flush<H: Host>(host: &mut H) -> Result<(), Fault>
     ensures flushed { OnOk result (IsFlushed (H.known host.new)) }
     ensures refused { IfErr result (λ fault. (fault ≡ CannotWrite) × HasRefused (H.known host.new)) }

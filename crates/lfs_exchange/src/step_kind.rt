@@ -7,8 +7,6 @@ use lfs_history::Move;
 use lfs_request::Query;
 
 /// What a step is to an image and its journal.
-///
-/// Source: own.
 #[derive(Clone, Copy)]
 pub enum StepKind {
     /// It makes a new one.
@@ -23,9 +21,7 @@ pub enum StepKind {
     Forgets,
 }
 
-/// The kind of what is asked. Takes no memory.
-///
-/// Source: own.
+/// The kind of what is asked.
 pub fn kind_of_query<O>(query: &Query<'_, O>) -> StepKind
     ensures { result ≡ kind_of_query query.now }
 {
@@ -39,9 +35,7 @@ pub fn kind_of_query<O>(query: &Query<'_, O>) -> StepKind
     }
 }
 
-/// The kind of steps on a history: they change both files; none at all ask whether there is an image. Takes no memory.
-///
-/// Source: own.
+/// The kind of steps on a history: they change both files; none at all ask whether there is an image.
 pub fn kind_of_steps(steps: &[Move<'_>]) -> StepKind
     ensures { result ≡ kind_of_steps steps.now }
 {

@@ -16,7 +16,7 @@ use lfs_request::{Fault, KeptJournal, Outcome};
 use std::alloc::Global;
 
 /// Writes what a step leaves; the answer to a question is handed on. What memory it takes is taken before a file is
-/// changed. The caller owes that this run has claimed the name, where a file is to be changed.
+/// changed.
 pub fn stored<H: Host>(
     alloc: Global,
     host: &mut H,
@@ -45,7 +45,7 @@ pub fn stored<H: Host>(
     }
 }
 
-/// Puts a new journal in the place of an image's, with the rights of the image. Takes no memory.
+/// Puts a new journal in the place of an image's, with the rights of the image.
 fn put_journal<H: Host>(
     host: &mut H,
     name: &str,
@@ -71,7 +71,7 @@ fn put_journal<H: Host>(
 }
 
 /// Puts a new journal and a new image in the places of the old ones. Both are written before either gets its place, so
-/// that a host without room leaves both as they were. Takes no memory.
+/// that a host without room leaves both as they were.
 fn put_both<H: Host>(
     host: &mut H,
     name: &str,

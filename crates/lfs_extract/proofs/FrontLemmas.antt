@@ -142,15 +142,15 @@ below_shared [] path same = refl
 below_shared (n ∷ at) [] same = absurd (omega (arith, same))
 below_shared (n ∷ at) (m ∷ path) same = all_by (bytes_eq n m) (shared at path) (length at) (below at path) (below_shared at path) same
 
-whole_by : (b : Bool) (x k : ℕ) (o : Option Path) → (is_some o ≡ true → x ≡ k) → is_some (if b then o else None) ≡ true
+complete_by : (b : Bool) (x k : ℕ) (o : Option Path) → (is_some o ≡ true → x ≡ k) → is_some (if b then o else None) ≡ true
     → (if b then suc x else 0) ≡ suc k
-whole_by true x k o more is = ap suc (more is)
-whole_by false x k o more is = absurd cc
+complete_by true x k o more is = ap suc (more is)
+complete_by false x k o more is = absurd cc
 
 pub shared_below : (at path : Path) → is_some (below at path) ≡ true → shared at path ≡ length at
 shared_below [] path is = refl
 shared_below (n ∷ at) [] is = absurd cc
-shared_below (n ∷ at) (m ∷ path) is = whole_by (bytes_eq n m) (shared at path) (length at) (below at path) (shared_below at path) is
+shared_below (n ∷ at) (m ∷ path) is = complete_by (bytes_eq n m) (shared at path) (length at) (below at path) (shared_below at path) is
 
 both : (a b : Bool) → (a ≡ true → b ≡ true) → (b ≡ true → a ≡ true) → a ≡ b
 both true b there back = sym (there refl)
@@ -212,9 +212,9 @@ rest_after at q rest left (suc k) n is was = elim (grown at (take k q) rest n is
       let least : 0 ≡ length (take k q ++ n ∷ []) - length at = omega (arith, here.0) in
       here.1 ∙ ap (λ (i : ℕ). path_after left i n) least
   | inr (before, there, rest_is) ↦
-      let whole : below at q ≡ Some (before ++ drop k q) =
+      let complete : below at q ≡ Some (before ++ drop k q) =
       ap (below at) (sym (take-append-drop k q)) ∙ front_left at (take k q) (drop k q) before there in
-      let left_is : before ++ drop k q ≡ left = subst (λ (o : Option Path). IfSome o (λ b. b ≡ left)) whole was in
+      let left_is : before ++ drop k q ≡ left = subst (λ (o : Option Path). IfSome o (λ b. b ≡ left)) complete was in
       let cut : take (length before) left ≡ before =
       ap (take (length before)) (sym left_is) ∙ take-append_seam before (drop k q) in
       let long : length (take k q) ≡ length at + length before =

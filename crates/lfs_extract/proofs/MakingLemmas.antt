@@ -32,22 +32,22 @@ makes_then (Some xs) (Some ys) None first second p q = absurd q
 makes_then (Some xs) (Some ys) (Some zs) first second p q = q ∙ ap (λ l. l ++ second) p ∙ append_assoc xs first second
 
 -- those in front of the rest were made
-pub record IsOnWay (old new : Option (List Made)) (rest whole : List Made) : Type 0 where
+pub record IsOnWay (old new : Option (List Made)) (rest complete : List Made) : Type 0 where
   pub front : List Made
   pub made : Makes old new front
-  pub all : front ++ rest ≡ whole
+  pub all : front ++ rest ≡ complete
 
-pub on_way : (old : Option (List Made)) (whole : List Made) → IsOnWay old old whole whole
-on_way old whole = record { front = []; made = makes_nothing old; all = refl }
+pub on_way : (old : Option (List Made)) (complete : List Made) → IsOnWay old old complete complete
+on_way old complete = record { front = []; made = makes_nothing old; all = refl }
 
-pub all_way : (old new : Option (List Made)) (whole : List Made) → IsOnWay old new [] whole → Makes old new whole
-all_way old new whole h = subst (Makes old new) (sym (append-nil h.front) ∙ h.all) h.made
+pub all_way : (old new : Option (List Made)) (complete : List Made) → IsOnWay old new [] complete → Makes old new complete
+all_way old new complete h = subst (Makes old new) (sym (append-nil h.front) ∙ h.all) h.made
 
 -- ---- rows
 
 -- the rows that are left
-pub record AreLeft (old new : Option (List Made)) (d : Disk) (at : Path) (dir : List ℕ) (left whole : List Row) : Type 0 where
-  pub way : IsOnWay old new (all_made d dir (rows_below at left)) (all_made d dir (rows_below at whole))
+pub record AreLeft (old new : Option (List Made)) (d : Disk) (at : Path) (dir : List ℕ) (left complete : List Row) : Type 0 where
+  pub way : IsOnWay old new (all_made d dir (rows_below at left)) (all_made d dir (rows_below at complete))
   pub blocks : All (λ (r : Row). HasBlocks d r.entry.body) left
   pub texts : HaveTexts (rows_below at left)
 
@@ -56,24 +56,24 @@ pub all_left : (old : Option (List Made)) (d : Disk) (at : Path) (dir : List ℕ
 all_left old d at dir rows blocks texts =
     record { way = on_way old (all_made d dir (rows_below at rows)); blocks = blocks; texts = texts }
 
-module _ (old mid : Option (List Made)) (d : Disk) (at : Path) (dir : List ℕ) (q : Path) (left later : List Listed) (x : Listed) (whole : List Row)
-    (h : AreLeft old mid d at dir (rows_after q left) whole) (first : left ≡ x ∷ later) where
+module _ (old mid : Option (List Made)) (d : Disk) (at : Path) (dir : List ℕ) (q : Path) (left later : List Listed) (x : Listed) (complete : List Row)
+    (h : AreLeft old mid d at dir (rows_after q left) complete) (first : left ≡ x ∷ later) where
   abbrev path : Path
   path = path_after q x.depth x.entry.name
 
   abbrev next : List Row
   next = rows_after path later
 
-  here : AreLeft old mid d at dir (row_after q x ∷ next) whole
-  here = subst (λ (xs : List Listed). AreLeft old mid d at dir (rows_after q xs) whole) first h
+  here : AreLeft old mid d at dir (row_after q x ∷ next) complete
+  here = subst (λ (xs : List Listed). AreLeft old mid d at dir (rows_after q xs) complete) first h
 
   later_blocks : All (λ (r : Row). HasBlocks d r.entry.body) next
   later_blocks = All-tail (λ (r : Row). HasBlocks d r.entry.body) (row_after q x) next here.blocks
 
   way_by : (o : Option Path) → below at path ≡ o
-      → IsOnWay old mid (all_made d dir (row_below x.entry o (rows_below at next))) (all_made d dir (rows_below at whole))
+      → IsOnWay old mid (all_made d dir (row_below x.entry o (rows_below at next))) (all_made d dir (rows_below at complete))
   way_by o is =
-      subst (λ (l : Option Path). IsOnWay old mid (all_made d dir (row_below x.entry l (rows_below at next))) (all_made d dir (rows_below at whole)))
+      subst (λ (l : Option Path). IsOnWay old mid (all_made d dir (row_below x.entry l (rows_below at next))) (all_made d dir (rows_below at complete)))
       is here.way
 
   texts_by : (o : Option Path) → below at path ≡ o → HaveTexts (row_below x.entry o (rows_below at next))
@@ -83,7 +83,7 @@ module _ (old mid : Option (List Made)) (d : Disk) (at : Path) (dir : List ℕ) 
   has_blocks = All-head (λ (r : Row). HasBlocks d r.entry.body) (row_after q x) next here.blocks
 
   -- a row that is neither at the path nor below it
-  pub passed : below at path ≡ None → AreLeft old mid d at dir (rows_after (path_after q x.depth x.entry.name) later) whole
+  pub passed : below at path ≡ None → AreLeft old mid d at dir (rows_after (path_after q x.depth x.entry.name) later) complete
   passed outside = record { way = way_by None outside; blocks = later_blocks; texts = texts_by None outside }
 
   module _ (rest : Path) (inside : below at path ≡ Some rest) where
@@ -95,7 +95,7 @@ module _ (old mid : Option (List Made)) (d : Disk) (at : Path) (dir : List ℕ) 
 
     -- one more is made
     pub one_more : (new : Option (List Made)) → Makes mid new (made_of d dir (record { path = rest; entry = x.entry }) ∷ [])
-        → AreLeft old new d at dir (rows_after (path_after q x.depth x.entry.name) later) whole
+        → AreLeft old new d at dir (rows_after (path_after q x.depth x.entry.name) later) complete
     one_more new made =
         let way = way_by (Some rest) inside in
         record {
@@ -109,7 +109,7 @@ module _ (old mid : Option (List Made)) (d : Disk) (at : Path) (dir : List ℕ) 
         }
 
     -- or no more are
-    pub stopped : MakesFront old mid (all_made d dir (rows_below at whole))
+    pub stopped : MakesFront old mid (all_made d dir (rows_below at complete))
     stopped =
         let way = way_by (Some rest) inside in
         record {
@@ -162,14 +162,14 @@ rows_have_blocks shows d disk m is =
 
 -- what making rows answers, where all names are texts
 abbrev pub IsMade : Result (Unit {0}) ExtractFault → Option (List Made) → Option (List Made) → List Made → Type 0
-IsMade result old new whole = MatchResult result (λ _. Makes old new whole) (λ fault. (fault ≢ HostName) × MakesFront old new whole)
+IsMade result old new complete = MatchResult result (λ _. Makes old new complete) (λ fault. (fault ≢ HostName) × MakesFront old new complete)
 
 judges_by : (fault : ExtractFault) (rows : List Row) → fault ≢ HostName → StayBelow rows → JudgesNames (Some fault) rows
 judges_by Memory rows other stay = stay
 judges_by HostName rows other stay = absurd (other refl)
 judges_by CannotWrite rows other stay = stay
 
-pub judges : (result : Result (Unit {0}) ExtractFault) (old new : Option (List Made)) (whole : List Made) (rows : List Row)
-    → IsMade result old new whole → StayBelow rows → JudgesNames (result_err result) rows
-judges (Ok done) old new whole rows made stay = stay
-judges (Err fault) old new whole rows (other, front) stay = judges_by fault rows other stay
+pub judges : (result : Result (Unit {0}) ExtractFault) (old new : Option (List Made)) (complete : List Made) (rows : List Row)
+    → IsMade result old new complete → StayBelow rows → JudgesNames (result_err result) rows
+judges (Ok done) old new complete rows made stay = stay
+judges (Err fault) old new complete rows (other, front) stay = judges_by fault rows other stay

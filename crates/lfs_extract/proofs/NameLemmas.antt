@@ -20,10 +20,10 @@ use Rattle.lfs_extract.proofs.FrontLemmas.{has_last, rest_after}
 -- ---- names of rows, one after another
 
 -- what is left of the path of the row before is of texts, and what is found of the rows that are left says it of all
-pub record IsJudgedOn (at q : Path) (left whole : List Row) : Type 0 where
+pub record IsJudgedOn (at q : Path) (left complete : List Row) : Type 0 where
   pub fit : IfSome (below at q) (All IsHostText)
-  pub fits : HaveTexts left → HaveTexts whole
-  pub other : HasOtherName left → HasOtherName whole
+  pub fits : HaveTexts left → HaveTexts complete
+  pub other : HasOtherName left → HasOtherName complete
 
 root_fits : (at : Path) → IfSome (below at []) (All IsHostText)
 root_fits [] = All-nil IsHostText
@@ -54,7 +54,7 @@ left_fits : (o : Option Path) → IfSome o (All IsHostText) → All IsHostText (
 left_fits None fit = All-nil IsHostText
 left_fits (Some rest) fit = fit
 
-module _ (at q : Path) (left later : List Listed) (x : Listed) (whole : List Row) (h : IsJudgedOn at q (rows_below at (rows_after q left)) whole)
+module _ (at q : Path) (left later : List Listed) (x : Listed) (complete : List Row) (h : IsJudgedOn at q (rows_below at (rows_after q left)) complete)
     (first : left ≡ x ∷ later) where
   abbrev path : Path
   path = path_after q x.depth x.entry.name
@@ -65,8 +65,8 @@ module _ (at q : Path) (left later : List Listed) (x : Listed) (whole : List Row
   abbrev more : ℕ
   more = length path - length at
 
-  here : IsJudgedOn at q (row_below x.entry (below at path) next) whole
-  here = subst (λ (xs : List Listed). IsJudgedOn at q (rows_below at (rows_after q xs)) whole) first h
+  here : IsJudgedOn at q (row_below x.entry (below at path) next) complete
+  here = subst (λ (xs : List Listed). IsJudgedOn at q (rows_below at (rows_after q xs)) complete) first h
 
   rest_is : (rest : Path) → below at path ≡ Some rest → rest ≡ path_after (left_of (below at q)) more x.entry.name
   rest_is rest inside = rest_after at q rest (left_of (below at q)) x.depth x.entry.name inside (is_left (below at q))
@@ -76,8 +76,8 @@ module _ (at q : Path) (left later : List Listed) (x : Listed) (whole : List Row
 
   -- a name more is a text
   more_by : (IsDeeper at path → IsHostText x.entry.name) → (o : Option Path) → below at path ≡ o
-      → (HaveTexts (row_below x.entry o next) → HaveTexts whole) → (HasOtherName (row_below x.entry o next) → HasOtherName whole)
-      → IsJudgedOn at path next whole
+      → (HaveTexts (row_below x.entry o next) → HaveTexts complete) → (HasOtherName (row_below x.entry o next) → HasOtherName complete)
+      → IsJudgedOn at path next complete
   more_by text None outside fits other = record {
     fit = subst (λ (o : Option Path). IfSome o (All IsHostText)) (sym outside) tt;
     fits = fits;
@@ -94,12 +94,12 @@ module _ (at q : Path) (left later : List Listed) (x : Listed) (whole : List Row
         other = λ later'. other (other_later r next later');
       }
 
-  pub judged_more : (IsDeeper at path → IsHostText x.entry.name) → IsJudgedOn at path next whole
+  pub judged_more : (IsDeeper at path → IsHostText x.entry.name) → IsJudgedOn at path next complete
   judged_more text = more_by text (below at path) refl here.fits here.other
 
   -- or is none
   other_by : (o : Option Path) → below at path ≡ o → IsDeeper at path → ¬ IsHostText x.entry.name
-      → (HasOtherName (row_below x.entry o next) → HasOtherName whole) → HasOtherName whole
+      → (HasOtherName (row_below x.entry o next) → HasOtherName complete) → HasOtherName complete
   other_by None outside deep none other = absurd (cc (deep.0, ap (λ (o : Option Path). is_some o) outside))
   other_by (Some rest) inside deep none other =
       let some' : 0 < more = omega (arith, deep.1) in
@@ -111,13 +111,13 @@ module _ (at q : Path) (left later : List Listed) (x : Listed) (whole : List Row
         none,
       )
 
-  pub judged_other : IsDeeper at path → ¬ IsHostText x.entry.name → HasOtherName whole
+  pub judged_other : IsDeeper at path → ¬ IsHostText x.entry.name → HasOtherName complete
   judged_other deep none = other_by (below at path) refl deep none here.other
 
-pub judged_all : (at q : Path) (left : List Listed) (whole : List Row) → IsJudgedOn at q (rows_below at (rows_after q left)) whole → left ≡ []
-    → HaveTexts whole
-judged_all at q left whole h none =
-    let here : IsJudgedOn at q [] whole = subst (λ (xs : List Listed). IsJudgedOn at q (rows_below at (rows_after q xs)) whole) none h in
+pub judged_all : (at q : Path) (left : List Listed) (complete : List Row) → IsJudgedOn at q (rows_below at (rows_after q left)) complete → left ≡ []
+    → HaveTexts complete
+judged_all at q left complete h none =
+    let here : IsJudgedOn at q [] complete = subst (λ (xs : List Listed). IsJudgedOn at q (rows_below at (rows_after q xs)) complete) none h in
     here.fits (All-nil (λ (r : Row). All IsHostText r.path))
 
 -- ---- names below the folder

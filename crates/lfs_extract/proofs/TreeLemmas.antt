@@ -117,7 +117,7 @@ has_path d m is at rest x there =
     let found = some_entry (entry_at is.volume (at ++ rest)) x there in
     let stands : entry_at m.outline (at ++ rest) ≡ Some (outlined_entry found.0) =
     ap (λ (v : Volume). entry_at v (at ++ rest)) is.outline ∙ outlined_at is.volume (at ++ rest) ∙ ap (option_map outlined_entry) found.1 in
-    has_row at rest (outlined_entry found.0) m.rows (is.rows.whole (at ++ rest) (outlined_entry found.0) stands)
+    has_row at rest (outlined_entry found.0) m.rows (is.rows.complete (at ++ rest) (outlined_entry found.0) stands)
 
 pub of_tree : RowsShowTheTree → (d : Disk) → IsDisk d → (m : MountedValue) → IsMountOf d m → (at : Path) (dir : List ℕ)
     → AreOfTree d at dir (all_made d dir (rows_below at m.rows))
@@ -126,7 +126,7 @@ of_tree shows d disk m is at dir = record {
   mounts = (is.volume, is.holds, is.sound, λ p. refl);
   paths = paths_of (rows_below at m.rows);
   rise = paths_rise at m.rows is.rows.rise;
-  whole = has_path d m is at;
+  complete = has_path d m is at;
   each = each_made (tree is.volume) d at dir (rows_below at m.rows)
       (each_right (tree is.volume) d at m.rows
       (All-weaker (Contains m.rows) (λ (r : Row). tree is.volume r.path ≡ Some (shown_node d r.entry)) (λ r there. (shows d m is r disk there).0)

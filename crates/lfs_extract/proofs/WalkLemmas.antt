@@ -38,8 +38,8 @@ lists_sorted (Some tree) folder listed sorted (names, is, same) moved = (
   is,
   record {
     right = All-permutation (λ (n : Name). Contains names n) listed sorted moved same.right;
-    whole = All-weaker (λ (n : Name). Contains listed n) (λ (n : Name). Contains sorted n)
-        (λ n there. Contains-permutation listed sorted n moved there) names same.whole;
+    complete = All-weaker (λ (n : Name). Contains listed n) (λ (n : Name). Contains sorted n)
+        (λ n there. Contains-permutation listed sorted n moved there) names same.complete;
     once = IsDistinct-IsPermutation bytes_eq nat_list_eq_equiv.symm listed sorted moved same.once;
   },
 )
@@ -98,7 +98,7 @@ pub record IsPut (most : ℕ) (known : Option HostTree) (dir : List ℕ) (shown 
 file_tree : (most : ℕ) (known : Option HostTree) (dir : List ℕ) (p : Path) (bytes : List ℕ) → ReadsEntry known (host_name dir p) most bytes
     → IfSome known (λ tree. IsTreePut most dir p (Some bytes) [] tree)
 file_tree most None dir p bytes h = tt
-file_tree most (Some tree) dir p bytes (whole, is, read) = record {
+file_tree most (Some tree) dir p bytes (complete, is, read) = record {
   shows = rw is (ap Some read);
   waits = All-nil (IsBelow tree dir);
   met = λ names folder n there. absurd (cc);
@@ -141,7 +141,7 @@ folder_tree most (Some tree) dir p names (there, is, same) below = record {
   met = λ others folder n inside.
       let equal : others ≡ there = cc in
       let one : Contains there n = subst (λ (ns : List Name). Contains ns n) equal inside in
-      let listed : Contains names n = subst (Contains names) one.2 (same.whole one.0 n one.1) in
+      let listed : Contains names n = subst (Contains names) one.2 (same.complete one.0 n one.1) in
       contains_mapped (λ (m : Name). p ++ m ∷ []) names n listed;
 }
 

@@ -252,7 +252,7 @@ end_tree most dir shown rest tree root walk =
     let first : Contains (paths_of shown) [] = rw root (0, omega arith, refl) in
     record {
       right = walk.right;
-      whole = λ path below. all_met tree dir shown met [] path first
+      complete = λ path below. all_met tree dir shown met [] path first
           (subst (λ (x : List ℕ). IsBelow tree x path) (sym (name_of_root dir)) below);
     }
 

@@ -28,19 +28,19 @@ abbrev pub all_made : Disk → List ℕ → List Row → List Made
 all_made d dir rows = map (made_of d dir) rows
 
 -- those in front of one of them were made, and no other
-pub record MakesFront (old new : Option (List Made)) (whole : List Made) : Type 0 where
+pub record MakesFront (old new : Option (List Made)) (complete : List Made) : Type 0 where
   pub front : List Made
   pub next : Made
   pub rest : List Made
-  pub split : front ++ next ∷ rest ≡ whole
+  pub split : front ++ next ∷ rest ≡ complete
   pub made : Makes old new front
 
 -- all of them, by what is answered; nothing where a name is refused, and else those in front of one
 abbrev pub Extracts : Option ExtractFault → Option (List Made) → Option (List Made) → List Made → Type 0
-Extracts None old new whole = Makes old new whole
-Extracts (Some HostName) old new whole = new ≡ old
-Extracts (Some Memory) old new whole = MakesFront old new whole
-Extracts (Some CannotWrite) old new whole = MakesFront old new whole
+Extracts None old new complete = Makes old new complete
+Extracts (Some HostName) old new complete = new ≡ old
+Extracts (Some Memory) old new complete = MakesFront old new complete
+Extracts (Some CannotWrite) old new complete = MakesFront old new complete
 
 -- ---- names
 

@@ -56,7 +56,7 @@ IsBelow tree name (n ∷ path) = (names : List Name) × (tree name ≡ FolderOf 
 
 -- a file's bytes, `most` of them and one more at most; none of a folder
 abbrev pub Shows : ℕ → HostNode → Option (List ℕ) → Type 0
-Shows most (FileOf whole) bytes = bytes ≡ Some (take (most + 1) whole)
+Shows most (FileOf complete) bytes = bytes ≡ Some (take (most + 1) complete)
 Shows most (FolderOf names) bytes = bytes ≡ None
 Shows most NothingThere bytes = ⊥
 Shows most OtherThere bytes = ⊥
@@ -68,7 +68,7 @@ IsRight most tree dir row = IsBelow tree dir row.path × Shows most (tree (host_
 -- rows of all that is below a folder, and of nothing else
 pub record AreAllBelow (most : ℕ) (tree : HostTree) (dir : List ℕ) (rows : List PathRow) : Type 0 where
   pub right : All (IsRight most tree dir) rows
-  pub whole : (path : Path) → IsBelow tree dir path → Contains (paths_of rows) path
+  pub complete : (path : Path) → IsBelow tree dir path → Contains (paths_of rows) path
 
 -- ---- what is read
 

@@ -20,5 +20,5 @@ pub record AreOfTree (d : Disk) (at : Path) (dir : List ℕ) (made : List Made) 
   pub mounts : Mounts d there
   pub paths : List Path
   pub rise : PathsRise paths
-  pub whole : (rest : Path) (x : Node) → there (at ++ rest) ≡ Some x → Contains paths rest
+  pub complete : (rest : Path) (x : Node) → there (at ++ rest) ≡ Some x → Contains paths rest
   pub each : AllZip (IsMadeAt there at dir) paths made

@@ -6,8 +6,6 @@ use std::fmt;
 use thiserror::Error;
 
 /// Why the rows of an image do not all become files and folders of a host.
-///
-/// Source: own.
 #[derive(Clone, Copy, Debug, PartialEq, Eq, Error)]
 pub enum ExtractFault {
     /// A growth of memory was refused.

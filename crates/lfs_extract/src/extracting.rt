@@ -23,8 +23,7 @@ use lfs_fs::{Mounted, Rows, outlines_are_sound, rows_show_the_tree};
 use lfs_host::NewFolder;
 use std::alloc::Global;
 
-/// Makes what rows at a path and below it show, one after another. The caller owes that the blocks of all rows are on the disk, and no more
-/// than it has, and that each name behind the path is UTF-8 with no byte of zero.
+/// Makes what rows at a path and below it show, one after another.
 fn make_rows<B: Blocks, F: NewFolder>(
     alloc: Global,
     disk: &B,
@@ -60,14 +59,11 @@ fn make_rows<B: Blocks, F: NewFolder>(
 /// Makes a folder of a host out of what stands in a mounted image at a path and below it: for each row that is there, in their order, a
 /// folder or a file with the row's contents, without its attributes, under the name `dir` with a slash before each name that is left of the
 /// row's path. So what stands at the path becomes `dir`, each folder is made before what is in it, and nothing is made outside `dir`, since
-/// no name of an image holds a slash or is `.` or `..`. The caller owes that `mounted` is the mount of the disk. Contents are written slice
-/// by slice, and a name waits at a time.
+/// no name of an image holds a slash or is `.` or `..`. Contents are written slice by slice, and a name waits at a time.
 ///
 /// The names that are left are looked at first: `HostName` where one isn't UTF-8 or holds a zero byte, and nothing is made. `CannotWrite`
 /// where the host refuses to make a folder or a file, or to write to one: then all rows before this one are made, and a file that was begun
 /// may be left with a beginning of its contents. `Memory` says only that a growth was refused, and some of the first rows are made.
-///
-/// Source: own.
 pub fn extract_rows<B: Blocks, F: NewFolder>(
     alloc: Global,
     disk: &B,

@@ -2,8 +2,7 @@
 
 ghost use Rattle.std.specs.Prelude.{◌≡◌, false, true};
 
-use lfs_host::NewFolder;
-use lfs_sink::Sink;
+use lfs_host::{NewFolder, Sink};
 
 /// The file that a host is making, as a sink: what went out is what was written to the file. No write changes which host it is, what
 /// was made before, files, standard input and what was printed, and that it has failed only where the host has refused something.
@@ -14,7 +13,7 @@ pub(crate) struct FileSink<'a, F> {
 }
 
 impl<'a, F: NewFolder> FileSink<'a, F> {
-    /// The file that a host is making, which has not failed. Takes no memory.
+    /// The file that a host is making, which has not failed.
     pub(crate) fn new(folder: &'a mut F) -> FileSink<'a, F>
         ensures sent { ⟦<FileSink<'a, F> as Sink>⟧.sent result ≡ (F.known folder.old).filled }
         ensures failed { ⟦<FileSink<'a, F> as Sink>⟧.failed result ≡ false }

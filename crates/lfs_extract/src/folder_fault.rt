@@ -6,8 +6,6 @@ use std::fmt;
 use thiserror::Error;
 
 /// Why a folder is not read.
-///
-/// Source: own.
 #[derive(Clone, Copy, Debug, PartialEq, Eq, Error)]
 pub enum FolderFault {
     /// A growth of memory was refused.

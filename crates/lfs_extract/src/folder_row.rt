@@ -1,8 +1,6 @@
 //! Rows of a host's folder.
 
 /// What stands at a path below a host's folder.
-///
-/// Source: own.
 #[derive(Drop)]
 pub struct FolderRow {
     /// The path's text: `/` for the folder itself, and else a slash before each name.

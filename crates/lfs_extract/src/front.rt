@@ -40,7 +40,7 @@ impl Front {
     ghost use Rattle.lfs_listing.specs.Below.{names};
     ghost use Rattle.lfs_extract.specs.RowsBelow.{IsFront};
 
-    /// Of the path that has no names, behind which the first row comes. Takes no memory.
+    /// Of the path that has no names, behind which the first row comes.
     pub(crate) fn new() -> Front
         ensures { (at : Path) → IsFront at [] result }
     {
@@ -50,7 +50,7 @@ impl Front {
         }
     }
 
-    /// Of the row that comes next, beside the same path. Takes no memory.
+    /// Of the row that comes next, beside the same path.
     pub(crate) fn behind(self, at: &[&[u8]], next: &Row<'_>) -> Front
         ensures { (path : Path) → IsFront (names at.now) path self
             → IsFront (names at.now) (path_after path next.now.depth next.now.entry.name) result }
@@ -65,14 +65,14 @@ impl Front {
         }
     }
 
-    /// Whether the row is at the path or below it. Takes no memory.
+    /// Whether the row is at the path or below it.
     pub(crate) fn is_below(self, at: &[&[u8]]) -> bool
         ensures { (path : Path) → IsFront (names at.now) path self → result ≡ is_some (below (names at.now) path) }
     {
         self.shared == at.len()
     }
 
-    /// How many more names the row's path has. Takes no memory.
+    /// How many more names the row's path has.
     pub(crate) fn more(self, at: &[&[u8]]) -> usize
         ensures { (path : Path) → IsFront (names at.now) path self → result ≡ length path - length (names at.now) }
     {

@@ -8,7 +8,7 @@ ghost use Rattle.lfs_extract.specs.PathBelow.{host_name};
 use lfs_fs::follow;
 use std::alloc::{AllocError, Global};
 
-/// A name as a text. The caller owes that it is UTF-8.
+/// A name as a text.
 fn text_of(name: &[u8]) -> &str
     requires { IsUtf8 name.now }
     ensures { result.now ≡ name.now }
@@ -19,8 +19,7 @@ fn text_of(name: &[u8]) -> &str
     }
 }
 
-/// Turns what is left of a row's path into that of a later one, of which so many names are left, this one last. The caller owes that it is
-/// UTF-8, where one is.
+/// Turns what is left of a row's path into that of a later one, of which so many names are left, this one last.
 pub(crate) fn follow_rest<'a>(
     rest: &mut Vec<&'a str>,
     depth: usize,

@@ -4,7 +4,7 @@ ghost use Rattle.std.specs.Prelude.{◌≡◌, [], ◌∷◌, false, not, List, 
 ghost use Rattle.lfs_meta.specs.Attribute.{Attributes};
 ghost use Rattle.lfs_fs.specs.RowHeld.{row_body_held};
 ghost use Rattle.lfs_fs.specs.RowShown.{HasBlocks, shown_node};
-ghost use Rattle.lfs_sink.specs.Send.{Sends};
+ghost use Rattle.lfs_host.specs.Send.{Sends};
 ghost use Rattle.lfs_extract.specs.Making.{contents_of};
 ghost use Rattle.lfs_host.specs.NewFolder.{Begins, FileMade, Makes};
 ghost use Rattle.lfs_host.specs.Scene.{HasRefused, KeepsFiles};
@@ -14,11 +14,9 @@ use crate::file_sink::FileSink;
 use lfs_block::Blocks;
 use lfs_file::send_blocks;
 use lfs_fs::{Row, RowBody};
-use lfs_host::{HostFault, NewFolder};
-use lfs_sink::{Sink, send};
+use lfs_host::{HostFault, NewFolder, Sink, send};
 
 /// Sends the contents of a row, slice by slice: `true` where they went out, `false` where the sink failed after a beginning of them.
-/// The caller owes that the row's blocks are on the disk, and no more than it has, and that the sink has not failed before.
 fn send_contents<B: Blocks, S: Sink>(disk: &B, body: &RowBody<'_>, out: &mut S) -> bool
     requires blocks { HasBlocks (B.disk disk.now) (row_body_held body.now) }
     requires works { S.failed out.old ≡ false }
@@ -44,11 +42,9 @@ fn fill_file<B: Blocks, F: NewFolder>(disk: &B, body: &RowBody<'_>, folder: &mut
     send_contents(disk, body, &mut FileSink::new(folder))
 }
 
-/// Writes the contents that a row's body has, none where it is a directory's, to the file that was begun under this name, and ends it. The
-/// caller owes that the body's blocks are on the disk, and no more than it has. Contents are written slice by slice. Where the host refuses
-/// to write to the file or to end it, nothing is made, and the file may be left with a beginning of its contents.
-///
-/// Source: own.
+/// Writes the contents that a row's body has, none where it is a directory's, to the file that was begun under this name, and ends it.
+/// Contents are written slice by slice. Where the host refuses to write to the file or to end it, nothing is made, and the file may be left
+/// with a beginning of its contents.
 pub fn write_file<B: Blocks, F: NewFolder>(
     disk: &B,
     body: &RowBody<'_>,

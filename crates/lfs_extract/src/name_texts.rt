@@ -25,7 +25,7 @@ fn has_other_name(front: Front, at: &[&[u8]], name: &[u8]) -> bool
     front.is_below(at) && front.more(at) > 0 && !is_host_text(name)
 }
 
-/// Whether each name behind a path, of the rows at it and below it, is UTF-8 with no byte of zero. Takes no memory.
+/// Whether each name behind a path, of the rows at it and below it, is UTF-8 with no byte of zero.
 pub(crate) fn have_host_texts(rows: Rows<'_>, at: &[&[u8]]) -> bool
     ensures { MatchBool result (HaveTexts (rows_below (names at.now) (rows_listed rows.entry)))
         (HasOtherName (rows_below (names at.now) (rows_listed rows.entry))) }

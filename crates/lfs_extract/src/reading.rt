@@ -15,8 +15,6 @@ use std::alloc::Global;
 /// it. Links aren't followed, and each file is read once. `HostEntry` where something below is neither a regular file nor a
 /// folder, `HostName` where a name below can't be one in an image, `CannotRead` where something can't be read: the host
 /// refuses, a name stands twice in one folder, nothing is under a name that a folder has, or more is there than an image can hold.
-///
-/// Source: own.
 pub fn folder_rows<H: Folders>(
     alloc: Global,
     host: &mut H,

@@ -57,5 +57,5 @@ pub length-content : (d : Disk) (head len : ℕ) (blocks : List ℕ) → IsDisk 
     → length (content d len blocks) ≡ len
 unfolding content
 length-content d head len blocks is chain =
-    let whole = length-parts d blocks (length blocks) is chain.below (omega arith) in
-    length-take-le len (concat (map (data_part d blocks) (range_with_len 0 (length blocks)))) (omega (arith, whole, chain.least.0))
+    let complete = length-parts d blocks (length blocks) is chain.below (omega arith) in
+    length-take-le len (concat (map (data_part d blocks) (range_with_len 0 (length blocks)))) (omega (arith, complete, chain.least.0))

@@ -32,8 +32,8 @@ unfolding laid
 get_or-laid size bytes blocks n within = get_or-map-range_with_len (λ n. filled size (share_of size bytes n) blocks n) 0
     (length blocks) n n [] within (zero-add n)
 
-pub laid-whole_blocks : (size : ℕ) (bytes blocks : List ℕ) → IsBlockSize size → All (λ block. length block ≡ size) (laid size bytes blocks)
-laid-whole_blocks size bytes blocks fits =
+pub laid-complete_blocks : (size : ℕ) (bytes blocks : List ℕ) → IsBlockSize size → All (λ block. length block ≡ size) (laid size bytes blocks)
+laid-complete_blocks size bytes blocks fits =
     All-from_get_or (λ block. length block ≡ size) (laid size bytes blocks) []
     (λ n within. ap length (get_or-laid size bytes blocks n (omega (arith, within, length-laid size bytes blocks)))
     ∙ length-filled size n (share_of size bytes n) blocks (omega (arith, fits.0)) (part_fits size n bytes))
@@ -95,12 +95,12 @@ front_held d head bytes blocks disk is (suc n) within =
     let held : length front ≡ room size n = length-parts d blocks n disk is.below (omega (arith, within)) in
     let here : next ≡ part ++ fill = ap (drop (4 * pointers n)) (on_disk d head bytes blocks is n (omega (arith, within)))
     ∙ data-filled size n part blocks in
-    let whole : concat (map (data_part d blocks) (range_with_len 0 (n + 1))) ≡ front ++ next =
+    let complete : concat (map (data_part d blocks) (range_with_len 0 (n + 1))) ≡ front ++ next =
     ap concat (map-range_with_len_more (data_part d blocks) 0 n n (omega arith))
     ∙ concat-append (map (data_part d blocks) (range_with_len 0 n)) (next ∷ [])
     ∙ ap (λ xs. front ++ xs) (concat-cons next [] ∙ append-nil next) in
     let all : take len (concat (map (data_part d blocks) (range_with_len 0 (n + 1)))) ≡ take (room size (n + 1)) bytes =
-    ap (take len) whole ∙ take-append len front next
+    ap (take len) complete ∙ take-append len front next
     ∙ ap (λ xs. xs ++ take (len - length front) next) earlier
     ∙ ap (λ xs. take (room size n) bytes ++ xs) (ap (λ k. take (len - k) next) held ∙ ap (take (len - room size n)) here
     ∙ cut_part (len - room size n) (capacity size n) (drop (room size n) bytes) part fill (length-drop (room size n) bytes) refl refl)

@@ -68,14 +68,14 @@ pub filled-from : (size n k held : ℕ) (part blocks : List ℕ) (front more blo
     → block ≡ take size more ++ replicate (size - held) 0xff
     → block ≡ filled size part blocks n
 unfolding filled
-filled-from size n k held part blocks front more block big fits is first then long_is whole =
+filled-from size n k held part blocks front more block big fits is first then long_is complete =
     let few : pointers n ≤ 33 = pointers_few n in
     let ptrs = laid_pointers blocks n (pointers n) in
     let begins : more ≡ ptrs ++ part = then ∙ ap (λ xs. xs ++ part) (first ∙ ap (laid_pointers blocks n) is) in
     let long : length more ≡ 4 * pointers n + length part = ap length begins ∙ length-append ptrs part
     ∙ ap (λ l. l + length part) (length-pointers blocks n (pointers n)) in
     let left : size - held ≡ capacity size n - length part = omega (arith, long) in
-    whole ∙ ap (λ xs. xs ++ replicate (size - held) 0xff) (take_all size more (omega (arith, long, fits, few, big)) ∙ begins)
+    complete ∙ ap (λ xs. xs ++ replicate (size - held) 0xff) (take_all size more (omega (arith, long, fits, few, big)) ∙ begins)
     ∙ ap (λ m. (ptrs ++ part) ++ replicate m 0xff) left
 
 -- a filled block has the block size
@@ -89,7 +89,7 @@ length-filled size n part blocks big fits =
     let filling : length fill ≡ capacity size n - length part = length-replicate (capacity size n - length part) 0xff in
     let begins : length (ptrs ++ part) ≡ length ptrs + length part = length-append ptrs part in
     let ptrs_long : length ptrs ≡ 4 * pointers n = length-pointers blocks n (pointers n) in
-    let whole : length ((ptrs ++ part) ++ fill) ≡ length (ptrs ++ part) + length fill = length-append (ptrs ++ part) fill in
+    let complete : length ((ptrs ++ part) ++ fill) ≡ length (ptrs ++ part) + length fill = length-append (ptrs ++ part) fill in
     omega arith
 
 -- pointer i of a filled block
@@ -151,8 +151,8 @@ pub part_fits : (size n : ℕ) (bytes : List ℕ) → length (share_of size byte
 part_fits size n bytes = omega (arith, length-take (capacity size n) (drop (room size n) bytes))
 
 -- all blocks
-pub laid-whole : (size n : ℕ) (bytes blocks : List ℕ) (all : List (List ℕ))
+pub laid-complete : (size n : ℕ) (bytes blocks : List ℕ) (all : List (List ℕ))
     → all ≡ map (λ k. filled size (share_of size bytes k) blocks k) (range_with_len 0 n) → n ≡ length blocks
     → all ≡ laid size bytes blocks
 unfolding laid
-laid-whole size n bytes blocks all is end = is ∙ ap (λ k. map (λ k. filled size (share_of size bytes k) blocks k) (range_with_len 0 k)) end
+laid-complete size n bytes blocks all is end = is ∙ ap (λ k. map (λ k. filled size (share_of size bytes k) blocks k) (range_with_len 0 k)) end

@@ -134,16 +134,16 @@ is_parted share m some =
       ];
     }
 
-pub least-whole : (size len : ℕ) → 256 ≤ size → size < len → len < 2 ^ 32
+pub least-complete : (size len : ℕ) → 256 ≤ size → size < len → len < 2 ^ 32
     → (len - 9) % (size - 8) < 4 * count_ones ((len - 9) / (size - 8) - 1)
     → (len - 9) / (size - 8) ≡ least_blocks size len
-least-whole size len big long fits less =
+least-complete size len big long fits less =
     let share = size - 8 in
     let parted = is_parted share (len - 9) (omega (arith, big)) in
-    let whole : (len - 9) / share ≡ (len - 9) / share - 1 + 1 = omega (arith, parted.some (omega (arith, long))) in
+    let complete : (len - 9) / share ≡ (len - 9) / share - 1 + 1 = omega (arith, parted.some (omega (arith, long))) in
     let sizes : share + 8 ≡ size = omega (arith, big) in
-    let rows : ((len - 9) / share - 1 + 1) * share ≡ (len - 9) / share * share = ap (λ k. k * share) (sym whole) in
-    whole
+    let rows : ((len - 9) / share - 1 + 1) * share ≡ (len - 9) / share * share = ap (λ k. k * share) (sym complete) in
+    complete
     ∙ least-fits share len ((len - 9) / share - 1) ((len - 9) % share) (omega (arith, big)) (omega (arith, parted.few, fits))
     (omega (arith, rows, parted.again, long, big)) less
     ∙ ap (λ s. least_blocks s len) sizes
@@ -154,11 +154,11 @@ pub least-one_more : (size len : ℕ) → 256 ≤ size → size < len → len < 
 least-one_more size len big long fits enough =
     let share = size - 8 in
     let parted = is_parted share (len - 9) (omega (arith, big)) in
-    let whole : (len - 9) / share ≡ (len - 9) / share - 1 + 1 = omega (arith, parted.some (omega (arith, long))) in
-    let next : (len - 9) / share + 1 ≡ (len - 9) / share - 1 + 2 = omega (arith, whole) in
+    let complete : (len - 9) / share ≡ (len - 9) / share - 1 + 1 = omega (arith, parted.some (omega (arith, long))) in
+    let next : (len - 9) / share + 1 ≡ (len - 9) / share - 1 + 2 = omega (arith, complete) in
     let sizes : share + 8 ≡ size = omega (arith, big) in
-    let rows : ((len - 9) / share - 1 + 1) * share ≡ (len - 9) / share * share = ap (λ k. k * share) (sym whole) in
+    let rows : ((len - 9) / share - 1 + 1) * share ≡ (len - 9) / share * share = ap (λ k. k * share) (sym complete) in
     next
-    ∙ least-more share len ((len - 9) / share - 1) ((len - 9) % share) (omega (arith, big)) (omega (arith, whole, parted.few, fits))
+    ∙ least-more share len ((len - 9) / share - 1) ((len - 9) % share) (omega (arith, big)) (omega (arith, complete, parted.few, fits))
     (omega (arith, rows, parted.again, long, big)) parted.less enough
     ∙ ap (λ s. least_blocks s len) sizes

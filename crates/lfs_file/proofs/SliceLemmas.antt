@@ -59,9 +59,9 @@ pub slices-step : (d : Disk) (n len start size room cut left : ℕ) (chain : Lis
     → start ≡ 4 * pointers n → room ≡ size - start → cut ≡ min room len → left ≡ len - room
     → slices_from d n len chain ≡ take cut (drop start bytes) ∷ slices_from d (n + 1) left later
 unfolding slices_from
-slices-step d n len start size room cut left chain block later bytes is here whole starts roomy cuts leaves =
+slices-step d n len start size room cut left chain block later bytes is here complete starts roomy cuts leaves =
     let part = drop (4 * pointers n) (block_of d block) in
-    let held : length part ≡ room = length-drop (4 * pointers n) (block_of d block) ∙ omega (arith, whole, starts, roomy) in
+    let held : length part ≡ room = length-drop (4 * pointers n) (block_of d block) ∙ omega (arith, complete, starts, roomy) in
     let same : drop start bytes ≡ part = ap (λ k. drop k bytes) starts ∙ ap (drop (4 * pointers n)) here in
     let first : take cut (drop start bytes) ≡ take len part = ap (take cut) same ∙ ap (λ k. take k part) (omega (arith, cuts, held))
     ∙ take_min len part in

@@ -60,10 +60,10 @@ linked d head len blocks is n within = record {
 }
 
 -- a walk of a chain's length from its head is the chain
-walk-whole : (d : Disk) (head len : ℕ) (blocks : List ℕ) → IsChain d head len blocks → (n : ℕ) → length blocks ≡ n → walk d head n ≡ blocks
+walk-complete : (d : Disk) (head len : ℕ) (blocks : List ℕ) → IsChain d head len blocks → (n : ℕ) → length blocks ≡ n → walk d head n ≡ blocks
 unfolding walk
-walk-whole d head len blocks is zero none = sym (nil_from_length blocks none)
-walk-whole d head len blocks is (suc n) same =
+walk-complete d head len blocks is zero none = sym (nil_from_length blocks none)
+walk-complete d head len blocks is (suc n) same =
     let within : n < length blocks = omega (arith, same) in
     let place : length blocks - 1 ≡ n = omega (arith, same) in
     let last : slice_get blocks n ≡ Some head = ap (slice_get blocks) (sym place) ∙ is.last (omega arith) in
@@ -75,11 +75,11 @@ walk-whole d head len blocks is (suc n) same =
 pub chain-found : (d : Disk) (head len : ℕ) (blocks : List ℕ) → 8 ≤ d.size → IsChain d head len blocks → chain_of d head len ≡ Some blocks
 unfolding chain_of
 chain-found d head len blocks big is =
-    let whole : walk d head (least_blocks d.size len) ≡ blocks = walk-whole d head len blocks is (least_blocks d.size len)
+    let complete : walk d head (least_blocks d.size len) ≡ blocks = walk-complete d head len blocks is (least_blocks d.size len)
     (least_is d.size len (length blocks) big is.least) in
     let passes : is_linked d blocks ≡ true = linked-from d blocks (λ n within.
     linked_at-from d blocks n (linked d head len blocks is n within)) in
-    ap (λ w. cond (is_linked d w) (Some w) None) whole ∙ cond-true (is_linked d blocks) (Some blocks) None passes
+    ap (λ w. cond (is_linked d w) (Some w) None) complete ∙ cond-true (is_linked d blocks) (Some blocks) None passes
 
 -- a walk of the least length that passes the tests is a chain
 walk-chain : (d : Disk) (head len : ℕ) → 8 ≤ d.size → is_linked d (walk d head (least_blocks d.size len)) ≡ true
@@ -189,11 +189,11 @@ walked-chain d head len n blocks big is walked passes =
     ∙ cond-true (is_linked d blocks) (Some blocks) None passes
 
 -- one block more of a walk
-pub walk-more : (d : Disk) (block m left before : ℕ) (items more whole : List ℕ) → m ≡ suc left → pointer (block_of d block) 0 ≡ before
+pub walk-more : (d : Disk) (block m left before : ℕ) (items more complete : List ℕ) → m ≡ suc left → pointer (block_of d block) 0 ≡ before
     → more ≡ items ++ block ∷ []
-    → whole ≡ walk d block m ++ reverse items → whole ≡ walk d before left ++ reverse more
+    → complete ≡ walk d block m ++ reverse items → complete ≡ walk d before left ++ reverse more
 unfolding walk
-walk-more d block m left before items more whole is points pushed so_far =
+walk-more d block m left before items more complete is points pushed so_far =
     so_far ∙ ap (λ n. walk d block n ++ reverse items) is
     ∙ ap (λ b. (walk d b left ++ block ∷ []) ++ reverse items) points
     ∙ append_assoc (walk d before left) (block ∷ []) (reverse items)
@@ -204,14 +204,14 @@ pub walk-past : (d : Disk) (head n block m left : ℕ) (rest : List ℕ) → m �
     → d.count ≤ block
     → is_linked d (walk d head n) ≡ false
 unfolding is_linked_at
-walk-past d head n block m left rest is whole past =
+walk-past d head n block m left rest is complete past =
     let front : length (walk d block m) ≡ suc left = length-walk d block m ∙ is in
     let last : get_or (walk d block m) left 0 ≡ block = ap (λ k. get_or (walk d block k) left 0) is ∙ last-walk d block left in
     let here : get_or (walk d block m ++ rest) left 0 ≡ block = get_or_append_left (walk d block m) rest 0 left (omega (arith, front))
     ∙ last in
     let within : left < length (walk d block m ++ rest) = omega (arith, length-append (walk d block m) rest, front) in
-    let same : slice_index (walk d head n) left ≡ block = ap (λ xs. get_or xs left 0) whole ∙ here in
-    linked-false d (walk d head n) left (omega (arith, ap length whole, within))
+    let same : slice_index (walk d head n) left ≡ block = ap (λ xs. get_or xs left 0) complete ∙ here in
+    linked-false d (walk d head n) left (omega (arith, ap length complete, within))
     (and_left (ltb (slice_index (walk d head n) left) d.count && _) _ (and_left (ltb (slice_index (walk d head n) left) d.count) _
     (le-ltb _ _ (omega (arith, same, past)))))
 

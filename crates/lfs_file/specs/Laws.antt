@@ -70,8 +70,8 @@ abbrev pub LaidAreAsMany : Type 0
 LaidAreAsMany = (size : ℕ) (bytes blocks : List ℕ) → length (laid size bytes blocks) ≡ length blocks
 
 -- each of them has the block size
-abbrev pub LaidAreWhole : Type 0
-LaidAreWhole = (size : ℕ) (bytes blocks : List ℕ) → IsBlockSize size → All (λ block. length block ≡ size) (laid size bytes blocks)
+abbrev pub LaidAreComplete : Type 0
+LaidAreComplete = (size : ℕ) (bytes blocks : List ℕ) → IsBlockSize size → All (λ block. length block ≡ size) (laid size bytes blocks)
 
 -- they are bytes
 abbrev pub LaidAreBytes : Type 0

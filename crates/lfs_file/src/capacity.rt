@@ -19,8 +19,8 @@ pub(crate) fn capacity_of(block_size: u32, n: u32) -> u32
     block_size - 4 * pointers_of(n)
 }
 
-/// The least number of blocks that hold a file of `len` bytes, in blocks of `block_size` bytes. The caller owes
-/// a block size that images have. Takes no memory, and the same time for every length.
+/// The least number of blocks that hold a file of `len` bytes, in blocks of `block_size` bytes. Takes no memory, and
+/// the same time for every length.
 ///
 /// Source: DESIGN.md, "CTZ skip-lists".
 pub fn blocks_for(len: u32, block_size: u32) -> u32
@@ -35,11 +35,11 @@ pub fn blocks_for(len: u32, block_size: u32) -> u32
     }
     // n blocks hold n times this, 8 bytes, and 4 for each bit of n - 1 that is 1: those are less than a block's share
     let share = block_size - 8;
-    let whole = (len - 9) / share;
+    let complete = (len - 9) / share;
     let over = (len - 9) % share;
-    if over < 4 * (whole - 1).count_ones() {
-        whole
+    if over < 4 * (complete - 1).count_ones() {
+        complete
     } else {
-        whole + 1
+        complete + 1
     }
 }

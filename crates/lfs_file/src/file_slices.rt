@@ -10,7 +10,7 @@ use lfs_block::Blocks;
 use std::marker::Model;
 
 /// The contents of a file in order, a slice for each of its blocks: what the block holds behind its pointers, cut
-/// where the file ends. It stands for the list of the slices that are left. Takes no memory.
+/// where the file ends. It stands for the list of the slices that are left.
 #[derive(Drop)]
 pub struct FileSlices<'a, B: Blocks> {
     disk: &'a B,
@@ -54,7 +54,7 @@ impl<'a, B: Blocks> Iterator for FileSlices<'a, B> {
 }
 
 /// The contents of a file of `len` bytes in the blocks of `chain`, in slices. Nothing is copied, and no memory is
-/// taken. The caller owes that the blocks are on the disk, and no more than it has.
+/// taken.
 ///
 /// Source: DESIGN.md, "CTZ skip-lists".
 pub fn read_file<'a, B: Blocks>(blocks: &'a B, chain: &'a [u32], len: u32) -> FileSlices<'a, B>

@@ -1,6 +1,6 @@
 //! What holds of every chain. A function here does nothing: its contract is the law.
 
-ghost use Rattle.lfs_file.specs.Laws.{LeastIsLeast, LeastIsOne, ChainsAreFound, FoundAreChains, ChainsAreOne, ChainsDiffer, ChainsFit, ChainsStay, FoundStay, ContentStays, EmptyIsFound, ContentHasLength, LaidAreAsMany, LaidAreWhole, LaidAreBytes, LaidIsChain, LaidIsFound, LaidIsContent};
+ghost use Rattle.lfs_file.specs.Laws.{LeastIsLeast, LeastIsOne, ChainsAreFound, FoundAreChains, ChainsAreOne, ChainsDiffer, ChainsFit, ChainsStay, FoundStay, ContentStays, EmptyIsFound, ContentHasLength, LaidAreAsMany, LaidAreComplete, LaidAreBytes, LaidIsChain, LaidIsFound, LaidIsContent};
 
 /// Law: the number of blocks that a file takes is the least that hold it, and the only least one.
 pub fn least_blocks_are_least()
@@ -36,9 +36,9 @@ pub fn contents_have_their_length()
 {}
 
 /// Law: the blocks that are laid for a file are as many as they are to be, each of the block size, and of bytes.
-pub fn laid_blocks_are_whole()
+pub fn laid_blocks_are_complete()
     ensures many { LaidAreAsMany }
-    ensures whole { LaidAreWhole }
+    ensures complete { LaidAreComplete }
     ensures bytes { LaidAreBytes }
 {}
 

@@ -35,8 +35,7 @@ fn filled(
 }
 
 /// The blocks of a file of these bytes, in the blocks of these numbers, from the first one on: each its pointers, the
-/// bytes of the file that it holds, and 0xff behind the last of them. The caller owes as many blocks as the bytes take,
-/// so none of them is left out. `None` where memory is refused.
+/// bytes of the file that it holds, and 0xff behind the last of them. `None` where memory is refused.
 ///
 /// Source: DESIGN.md, "CTZ skip-lists".
 pub fn lay(alloc: Global, bytes: &[u8], blocks: &[u32], block_size: u32) -> Option<Vec<Vec<u8>>>

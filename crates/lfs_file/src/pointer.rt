@@ -5,7 +5,7 @@ ghost use Rattle.lfs_file.specs.Pointer.{pointer};
 
 use byteorder::{ByteOrder, LittleEndian};
 
-/// Pointer `i` of a block. The caller owes that the block is long enough.
+/// Pointer `i` of a block.
 pub(crate) fn pointer_at(block: &[u8], i: usize) -> u32
     requires { 4 * i + 4 ≤ length block.now }
     ensures { result ≡ pointer block.now i }

@@ -2,15 +2,14 @@
 
 ghost use Rattle.std.specs.Prelude.{◌≡◌, ◌<◌, ◌≤◌, All, false, not, length};
 ghost use Rattle.lfs_file.specs.Content.{content};
-ghost use Rattle.lfs_sink.specs.Send.{Sends};
+ghost use Rattle.lfs_host.specs.Send.{Sends};
 
 use crate::file_slices::read_file;
 use lfs_block::Blocks;
-use lfs_sink::{Sink, send};
+use lfs_host::{Sink, send};
 
 /// Sends the contents of a file of `size` bytes in these blocks, slice by slice: `true` where they went out, `false` where the sink
-/// failed after a beginning of them. The caller owes that the blocks are on the disk, and no more than it has, and that the sink has not
-/// failed before. Takes no memory.
+/// failed after a beginning of them.
 ///
 /// Source: DESIGN.md, "CTZ skip-lists".
 pub fn send_blocks<B: Blocks, S: Sink>(disk: &B, blocks: &[u32], size: u32, out: &mut S) -> bool

@@ -24,8 +24,6 @@ fn behind(found: &Found) -> usize
 /// states a size and a number of blocks that images may have, and that fit in what is left of the file. The image is read there as a
 /// device reads it, of as many bytes as its superblock states, and is mounted. Behind one that mounts the search goes on at its end, and
 /// behind any other a byte further. Takes memory.
-///
-/// Source: own.
 pub fn find_images(alloc: Global, bytes: &[u8]) -> Result<Vec<Found>, AllocError>
     ensures { IfOk result (λ found. AreFound bytes.now 0 found.items) }
 {

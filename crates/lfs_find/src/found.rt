@@ -4,8 +4,6 @@ use crate::place::Place;
 use crate::unmounted::Unmounted;
 
 /// What is found at a place of a file.
-///
-/// Source: own.
 #[derive(Clone, Copy, Debug, PartialEq, Eq)]
 pub struct Found {
     /// The place.

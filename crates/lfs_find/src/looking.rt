@@ -23,8 +23,6 @@ const MOST_FLASH: u64 = 9_223_372_036_854_775_807;
 
 /// Lists the images that stand in the file of this name on standard output, a line each, as `send_found` sends them. `CannotRead` where the
 /// host refuses to read it, `CannotWrite` where it refuses what is printed. Takes memory.
-///
-/// Source: own.
 pub fn list_images<H: Host>(alloc: Global, host: &mut H, name: &str) -> Result<(), Fault>
     ensures { EndsFinding name.now (H.known host.old) (H.known host.new) (result_err result) }
 {

@@ -1,8 +1,6 @@
 //! Where in a file an image may stand.
 
 /// Where in a file an image may stand, and what the superblock states that stands there at the start of a block.
-///
-/// Source: own.
 #[derive(Clone, Copy, Debug, PartialEq, Eq)]
 pub struct Place {
     /// The byte of the file at which it begins.

@@ -37,7 +37,7 @@ fn place_at(bytes: &[u8], at: usize) -> Option<Place>
     place_in(at, rest.len(), superblock_words(rest)?)
 }
 
-/// The first place from a byte of a file on. Takes no memory.
+/// The first place from a byte of a file on.
 pub(crate) fn first_place(bytes: &[u8], from: usize) -> Option<Place>
     ensures some { IfSome result (λ place. IsFirstPlace bytes.now from place) }
     ensures within { IfSome result (λ place. place.at < length bytes.now) }

@@ -7,8 +7,8 @@ ghost use Rattle.lfs_find.specs.FoundText.{found_text};
 
 use crate::found::Found;
 use crate::lines::append_found;
+use lfs_host::{Sink, send};
 use lfs_listing::Unsent;
-use lfs_sink::{Sink, send};
 use std::alloc::{AllocError, Global};
 
 /// The lines of all that is found.
@@ -23,11 +23,9 @@ fn found_text(alloc: Global, found: &[Found]) -> Result<Vec<u8>, AllocError>
 }
 
 /// Sends a line for each image that is found in a file: where it stands in hexadecimal digits behind `0x`, its version, the size and the
-/// number of its blocks, and the number of its bytes. At the line's end stands `mounts`, or the number and the name of its fault. The
-/// caller owes that the sink has not failed before. `CannotWrite` where the sink fails, and a beginning went out, not all; `Memory` says
-/// only that a growth was refused, and a beginning went out, perhaps all. Takes memory.
-///
-/// Source: own.
+/// number of its blocks, and the number of its bytes. At the line's end stands `mounts`, or the number and the name of its fault.
+/// `CannotWrite` where the sink fails, and a beginning went out, not all; `Memory` says only that a growth was refused, and a beginning
+/// went out, perhaps all. Takes memory.
 pub fn send_found<S: Sink>(alloc: Global, found: &[Found], out: &mut S) -> Result<(), Unsent>
     requires { S.failed out.old ≡ false }
     ensures sent { SendsListing (result_err result) (S.sent out.old) (S.sent out.new) (found_text found.now) }

@@ -3,8 +3,6 @@
 use lfs_block::{ImageFault, MountFault};
 
 /// Why what stands at a place of a file does not mount.
-///
-/// Source: own.
 #[derive(Clone, Copy, Debug, PartialEq, Eq)]
 pub enum Unmounted {
     /// Its bytes are no image.

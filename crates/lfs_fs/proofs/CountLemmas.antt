@@ -82,11 +82,11 @@ front_uses : (r : Reading) (b : ℕ) (front rest : List Pair) (next : Option Pai
     → sum_by (λ (l : Link). part_uses b l.part) (map (link_at r) front) + pairs_name b (option_to_list next)
     ≤ sum_by (λ (l : Link). part_uses b l.part) (map (link_at r) (front ++ rest))
 front_uses r b front rest next (inl none) =
-    let whole = sums (λ (l : Link). part_uses b l.part) r front rest in
+    let complete = sums (λ (l : Link). part_uses b l.part) r front rest in
     let no : pairs_name b (option_to_list next) ≡ 0 = ap (λ (o : Option Pair). pairs_name b (option_to_list o)) none in
     omega arith
 front_uses r b front rest next (inr (q, more, some, is)) =
-    let whole = sums (λ (l : Link). part_uses b l.part) r front rest in
+    let complete = sums (λ (l : Link). part_uses b l.part) r front rest in
     let one : pairs_name b (option_to_list next) ≡ pair_names b q = ap (λ (o : Option Pair). pairs_name b (option_to_list o)) some
     ∙ one_pair b q in
     let same : pair_uses b (link_at r q).part ≡ pair_names b q = ap (pair_names b) (link_pair r q (r.part q)) in
@@ -110,7 +110,7 @@ uses_of_front r h k b ps front thread begins =
 pub named_of_front : (r : Reading) (h k : Header) (p : Pair) (ps front : List Pair) → Begins front ps
     → named p (volume_at r h front) ≤ named p (volume_at r k ps)
 named_of_front r h k p ps front begins =
-    let whole = sums (λ (l : Link). part_names p l.part) r front begins.0 in
+    let complete = sums (λ (l : Link). part_names p l.part) r front begins.0 in
     let these = named_at r h p front in
     let all : named p (volume_at r k ps) ≡ leads_to p (Some root) + sum_by (λ (l : Link). part_names p l.part)
     (map (link_at r) (front ++ begins.0)) = named_at r k p ps ∙ ap (λ (x : List Pair).

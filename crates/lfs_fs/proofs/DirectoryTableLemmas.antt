@@ -49,9 +49,9 @@ pub taken_more : (ds : List Directory) (i : ℕ) (d : Directory) (table after : 
     → ((j : Pair) → look_up j after ≡ cond (is_at (pair_order k) j) (Some i) (look_up j table)) → IsTableOf (take i ds) table
     → IsTableOf (take (i + 1) ds) after
 taken_more ds i d table after k within at is updates h =
-    let whole : take (i + 1) ds ≡ take i ds ++ d ∷ [] = take_more ds i d within ∙ ap (λ (c : Directory). take i ds ++ c ∷ []) (sym at) in
+    let complete : take (i + 1) ds ≡ take i ds ++ d ∷ [] = take_more ds i d within ∙ ap (λ (c : Directory). take i ds ++ c ∷ []) (sym at) in
     let len : length (take i ds) ≡ i = length-take-le i ds (omega arith) in
-    subst (λ (cs : List Directory). IsTableOf cs after) (sym whole)
+    subst (λ (cs : List Directory). IsTableOf cs after) (sym complete)
     (table_more (take i ds) d table after k is (λ j. updates j ∙ ap (λ (n : ℕ). cond (is_at (pair_order k) j) (Some n) (look_up j table))
     (sym len)) h)
 

@@ -14,7 +14,7 @@ use Rattle.lfs_meta.specs.declared.kind.Kind.TheVariants.{File, Dir, Super}
 use Rattle.lfs_meta.specs.Attribute.{Attributes}
 use Rattle.lfs_meta.specs.Body.{Pair, StoredBody, Inline as Stored_inline, Chain as Stored_chain, Directory_at as Stored_directory}
 use Rattle.lfs_meta.specs.Entry.{StoredEntry}
-use Rattle.lfs_meta.specs.HeldLaws.{IsHeldEntry, HeldPartsAreWhole}
+use Rattle.lfs_meta.specs.HeldLaws.{IsHeldEntry, HeldPartsAreComplete}
 use Rattle.lfs_meta.specs.Laws.{NamesAreDecided}
 use Rattle.lfs_meta.specs.Part.{StoredPart}
 use Rattle.lfs_fs.specs.declared.limits.Limits.{Limits}
@@ -42,7 +42,7 @@ use Rattle.lfs_fs.proofs.SuperblockLemmas.{are_attributes}
 pub record IsClear (d : Disk) : Type 0 where
   pub disk : IsDisk d
   pub none : HasNoCause d
-  pub held : HeldPartsAreWhole
+  pub held : HeldPartsAreComplete
   pub names : NamesAreDecided
   pub lengths : Lengths (reading_of d)
   pub differ : ChainsDiffer
@@ -149,7 +149,7 @@ file_fits : (d : Disk) (e : StoredEntry) → IsClear d → (f : HasFound d) → 
 file_fits d e c f s other =
     elim (cases_lt (limits_of f).file (stored_length e.body)) [
       | inl long ↦ absurd
-          (not_over d e c f s (long_file (limits_of f) e other (held_entry d e c s).whole long))
+          (not_over d e c f s (long_file (limits_of f) e other (held_entry d e c s).complete long))
       | inr fits ↦ fits
     ]
 
@@ -159,7 +159,7 @@ entry_proper d e c f s other =
     let size = file_fits d e c f s other in
     let body = body_at_most (reading_of d) e.body c.lengths in
     record {
-      name = named e.kind e.name c.names other (held_entry d e c s).whole.name;
+      name = named e.kind e.name c.names other (held_entry d e c s).complete.name;
       name_fits = name_fits d e c f s other;
       file_fits = omega arith;
       attributes = attributes_fit d e c f s;

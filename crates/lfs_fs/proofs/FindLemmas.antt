@@ -49,9 +49,9 @@ nowhere ds [] = refl
 nowhere ds (n ∷ ns) = nowhere ds ns
 
 -- one name further down
-pub down_one : (ds : List Directory) (here : Option Entry) (names : List Name) (i : ℕ) (n : Name) (below whole : Option Entry)
+pub down_one : (ds : List Directory) (here : Option Entry) (names : List Name) (i : ℕ) (n : Name) (below complete : Option Entry)
     → i < length names → n ≡ get_or names i n → below ≡ step target (entry_in ds) n here
-    → walk target (entry_in ds) here (drop i names) ≡ whole → walk target (entry_in ds) below (drop (i + 1) names) ≡ whole
-down_one ds here names i n below whole within at is same =
+    → walk target (entry_in ds) here (drop i names) ≡ complete → walk target (entry_in ds) below (drop (i + 1) names) ≡ complete
+down_one ds here names i n below complete within at is same =
     ap (λ o. walk target (entry_in ds) o (drop (i + 1) names)) is ∙ ap (λ ns. walk target (entry_in ds) here ns)
     (sym (drop_at names i n within at)) ∙ same

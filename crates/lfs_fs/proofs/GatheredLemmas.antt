@@ -192,14 +192,14 @@ pub found_sound : (r : Reading) (limits : Limits) (used : List Bool) (p : PairPa
     (rest : List PairPart) (ds : List Directory) (h : Found r limits used p e others rest ds)
     → IsSoundUnwalked (found_volume r h.judged.bytes e p rest)
 found_sound r limits used p e others rest ds h =
-    let whole = pieces (map (link_from r) (with_entries p others ∷ rest)) in
-    let same : whole ≡ directories_at r (p.0 ∷ pairs_of rest) = found_directories r limits used p e others rest ds h in
+    let complete = pieces (map (link_from r) (with_entries p others ∷ rest)) in
+    let same : complete ≡ directories_at r (p.0 ∷ pairs_of rest) = found_directories r limits used p e others rest ds h in
     let limits_are : limits ≡ (header_of h.judged.bytes e.attributes).limits = h.judged.limits_are in
     let marks = found_uses r limits used p e others rest ds h in
     let len : length used ≡ r.count = h.kept.len in
     record {
       starts = starts_at_root (link_at r p.0) (map (link_at r) (pairs_of rest)) (link_pair r p.0 (r.part p.0) ∙ h.read.at);
-      order = subst (All (λ (d : Directory). Rise (entries d))) same (all_rise whole
+      order = subst (All (λ (d : Directory). Rise (entries d))) same (all_rise complete
           (subst (All (λ (d : Directory). Rise (entries d))) h.kept.is h.kept.order));
       proper = subst (All (λ (d : Directory). All (IsProper (header_of h.judged.bytes e.attributes).limits) (entries d))) same
           (each_entry (IsProper (header_of h.judged.bytes e.attributes).limits) (map (link_from r) (with_entries p others ∷ rest))

@@ -10,7 +10,7 @@ use Rattle.lfs_block.specs.declared.mount_fault.MountFault.{MountFault}
 use Rattle.lfs_block.specs.declared.mount_fault.MountFault.TheVariants as fault
 use Rattle.lfs_meta.specs.Name.{Name}
 use Rattle.lfs_meta.specs.Entry.{StoredEntry}
-use Rattle.lfs_meta.specs.Whole.{IsWhole}
+use Rattle.lfs_meta.specs.Complete.{IsComplete}
 use Rattle.lfs_meta.proofs.PartlessLemmas.{any_later}
 use Rattle.lfs_fs.specs.declared.limits.Limits.{Limits}
 use Rattle.lfs_fs.specs.NameOrder.{precedes}
@@ -97,7 +97,7 @@ rise_both (e ∷ es) f fs rise later before =
 -- what is kept so far behind others, and the entries that are left
 pub record KeepsTo (r : Reading) (limits : Limits) (start : List Bool) (before : List Entry) (es : List StoredEntry) (used : List Bool)
     (kept : List Entry) (rest : List StoredEntry) : Type 0 where
-  pub whole : AllByRecursion IsWhole rest
+  pub complete : AllByRecursion IsComplete rest
   pub rise : Rise (before ++ kept)
   pub is : kept ++ map outlined_entry (flat_map (resolved r) rest) ≡ map outlined_entry (flat_map (resolved r) es)
   pub len : length used ≡ length start
@@ -107,9 +107,9 @@ pub record KeepsTo (r : Reading) (limits : Limits) (start : List Bool) (before :
   pub proper : All (IsProper limits) (flat_map (resolved r) rest) → All (IsProper limits) (flat_map (resolved r) es)
 
 pub none_kept : (r : Reading) (limits : Limits) (start : List Bool) (before : List Entry) (es : List StoredEntry)
-    → AllByRecursion IsWhole es → Rise before → KeepsTo r limits start before es start [] es
-none_kept r limits start before es whole rise = record {
-  whole = whole;
+    → AllByRecursion IsComplete es → Rise before → KeepsTo r limits start before es start [] es
+none_kept r limits start before es complete rise = record {
+  complete = complete;
   rise = subst Rise (sym (append-nil before)) rise;
   is = refl;
   len = refl;
@@ -137,7 +137,7 @@ pub keeps_more : (r : Reading) (limits : Limits) (start : List Bool) (before : L
     → All (λ f. precedes f.name next.name ≡ true) (before ++ kept)
     → KeepsTo r limits start before es new (kept ++ next ∷ []) rest
 keeps_more r limits start before es used new kept e rest next h one order = record {
-  whole = h.whole.1;
+  complete = h.complete.1;
   rise = subst Rise (append_assoc before kept (next ∷ [])) (rise_more (before ++ kept) next h.rise order);
   is = append_assoc kept (next ∷ []) (map outlined_entry (flat_map (resolved r) rest))
       ∙ ap (λ (x : List Entry). kept ++ (x ++ map outlined_entry (flat_map (resolved r) rest))) (sym one.is)

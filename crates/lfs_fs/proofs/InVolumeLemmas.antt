@@ -22,58 +22,58 @@ use Rattle.lfs_fs.proofs.ContainsLemmas.{contains_mapped}
 use Rattle.lfs_fs.proofs.ResolvedLemmas.{stood_for}
 
 -- a directory with all entries of a list
-pub record Home (ds : List Directory) (es : List Entry) : Type 0 where
+pub record Parent (ds : List Directory) (es : List Entry) : Type 0 where
   pub directory : Directory
   pub there : Contains ds directory
   pub all : (x : Entry) → Contains es x → Contains (entries directory) x
 
-home_joined : (p : Part) (ds : List Directory) → Home (joined_to p ds) p.entries
-home_joined p [] = record {
+parent_joined : (p : Part) (ds : List Directory) → Parent (joined_to p ds) p.entries
+parent_joined p [] = record {
   directory = record { first = p; more = [] };
   there = (0, omega arith, refl);
   all = λ x there. Contains-append_left p.entries [] x there;
 }
-home_joined p (d ∷ ds) = record {
+parent_joined p (d ∷ ds) = record {
   directory = record { first = p; more = parts d };
   there = (0, omega arith, refl);
   all = λ x there. Contains-append_left p.entries (entries d) x there;
 }
 
-home_later_at : (p : Part) (ds : List Directory) (d : Directory) → Contains ds d → Home (joined_to p ds) (entries d)
-home_later_at p [] d there = absurd (omega arith)
-home_later_at p (e ∷ ds) d (zero, within, is) = record {
+parent_later_at : (p : Part) (ds : List Directory) (d : Directory) → Contains ds d → Parent (joined_to p ds) (entries d)
+parent_later_at p [] d there = absurd (omega arith)
+parent_later_at p (e ∷ ds) d (zero, within, is) = record {
   directory = record { first = p; more = parts e };
   there = (0, omega arith, refl);
   all = λ x there. Contains-append_right p.entries (entries e) x (subst (λ (y : Directory). Contains (entries y) x) (sym is) there);
 }
-home_later_at p (e ∷ ds) d (suc k, within, is) = record { directory = d; there = (suc k, omega arith, is); all = λ x there. there }
+parent_later_at p (e ∷ ds) d (suc k, within, is) = record { directory = d; there = (suc k, omega arith, is); all = λ x there. there }
 
-home_step_first : (hard : Bool) (p : Part) (ds : List Directory) → Home
+parent_step_first : (hard : Bool) (p : Part) (ds : List Directory) → Parent
     (if hard then joined_to p ds else record { first = p; more = [] } ∷ ds) p.entries
-home_step_first true p ds = home_joined p ds
-home_step_first false p ds = record {
+parent_step_first true p ds = parent_joined p ds
+parent_step_first false p ds = record {
   directory = record { first = p; more = [] };
   there = (0, omega arith, refl);
   all = λ x there. Contains-append_left p.entries [] x there;
 }
 
-home_step_later : (hard : Bool) (p : Part) (ds : List Directory) (es : List Entry) → Home ds es
-    → Home (if hard then joined_to p ds else record { first = p; more = [] } ∷ ds) es
-home_step_later true p ds es h =
-    let later = home_later_at p ds h.directory h.there in
+parent_step_later : (hard : Bool) (p : Part) (ds : List Directory) (es : List Entry) → Parent ds es
+    → Parent (if hard then joined_to p ds else record { first = p; more = [] } ∷ ds) es
+parent_step_later true p ds es h =
+    let later = parent_later_at p ds h.directory h.there in
     record { directory = later.directory; there = later.there; all = λ x there. later.all x (h.all x there) }
-home_step_later false p ds es h = record {
+parent_step_later false p ds es h = record {
   directory = h.directory;
   there =
       contains_more h.directory (record { first = p; more = [] }) ds h.there;
   all = h.all;
 }
 
-home : (ls : List Link) (l : Link) → Contains ls l → Home (pieces ls) l.part.entries
-home [] l there = absurd (omega arith)
-home (m ∷ ls) l (zero, within, is) = subst (λ (x : Link). Home (pieces (m ∷ ls)) x.part.entries) is
-    (home_step_first (is_hard m.tail) m.part (pieces ls))
-home (m ∷ ls) l (suc k, within, is) = home_step_later (is_hard m.tail) m.part (pieces ls) l.part.entries (home ls l (k, omega arith, is))
+parent : (ls : List Link) (l : Link) → Contains ls l → Parent (pieces ls) l.part.entries
+parent [] l there = absurd (omega arith)
+parent (m ∷ ls) l (zero, within, is) = subst (λ (x : Link). Parent (pieces (m ∷ ls)) x.part.entries) is
+    (parent_step_first (is_hard m.tail) m.part (pieces ls))
+parent (m ∷ ls) l (suc k, within, is) = parent_step_later (is_hard m.tail) m.part (pieces ls) l.part.entries (parent ls l (k, omega arith, is))
 
 contains_flat : {X Y : Type 0} (f : X → List Y) (xs : List X) (i : ℕ) (x : X) (y : Y) → slice_get xs i ≡ Some x → Contains (f x) y
     → Contains (flat_map f xs) y
@@ -105,7 +105,7 @@ pub stands : (r : Reading) (ps : List Pair) (e : StoredEntry) (s : StoredOn r e)
     → IsEntryAmong (directories_at r ps) (stood_for r e)
 stands r ps e s thread other =
     let there = there_in_thread s.front ps s.pair (front_of_thread r ps s.front thread s.is_front) s.there in
-    let h = home (map (link_at r) ps) (link_at r s.pair) (contains_mapped (link_at r) ps s.pair there) in
+    let h = parent (map (link_at r) ps) (link_at r s.pair) (contains_mapped (link_at r) ps s.pair there) in
     record {
       directory = h.directory;
       there = h.there;

@@ -28,7 +28,7 @@ use Rattle.lfs_fs.specs.Used.{AddsBlocks, AreTaken, Marks, marked, unmarked}
 use Rattle.lfs_fs.specs.Uses.{times}
 use Rattle.lfs_fs.proofs.GatherCauseLemmas.{parts_refuse}
 use Rattle.lfs_fs.proofs.GatheredLemmas.{RootRead, same_links, uses_are}
-use Rattle.lfs_fs.proofs.PartsLemmas.{IsWholePart, PartsTo, all_gathered, ends_here, goes_on, none_gathered, part_refuses}
+use Rattle.lfs_fs.proofs.PartsLemmas.{IsCompletePart, PartsTo, all_gathered, ends_here, goes_on, none_gathered, part_refuses}
 use Rattle.lfs_fs.proofs.ThreadReadLemmas.{front_more, next_more, next_refused, no_header, pairs_more, root_front, unread_pair}
 
 -- ---- parts alone
@@ -39,17 +39,17 @@ by_pairs ps = λ b. pairs_name b ps
 
 -- the parts so far are kept, whatever comes behind them
 abbrev pub AreKept : Reading → Limits → (ℕ → ℕ) → List PairPart → List Bool → Joined → Type 0
-AreKept r limits others ps used j = (more : List PairPart) → All IsWholePart more
+AreKept r limits others ps used j = (more : List PairPart) → All IsCompletePart more
     → PartsTo r limits others (ps ++ more) used j.directories.items j.parts.items more
 
 -- more is marked beside them
 others_more : (r : Reading) (limits : Limits) (others these : ℕ → ℕ) (ps : List PairPart) (used new : List Bool) (j : Joined)
     (blocks : List ℕ) → AreKept r limits others ps used j → AddsBlocks used new blocks → ((b : ℕ) → these b ≡ others b + times b blocks)
     → AreKept r limits these ps new j
-others_more r limits others these ps used new j blocks kept adds are more whole =
-    let h = kept more whole in
+others_more r limits others these ps used new j blocks kept adds are more complete =
+    let h = kept more complete in
     record {
-      whole = h.whole;
+      complete = h.complete;
       rise = h.rise;
       rises = h.rises;
       is = h.is;
@@ -60,37 +60,37 @@ others_more r limits others these ps used new j blocks kept adds are more whole 
     }
 
 kept_by : (r : Reading) (limits : Limits) (others : ℕ → ℕ) (ps : List PairPart) (used new : List Bool) (j k : Joined) (q : PairPart)
-    (hard : Bool) → is_hard q.1.tail ≡ hard → AreKept r limits others ps used j → IsWholePart q
-    → (h : KeepsNext r limits used new q j k) → Joins hard h.kept j k → (more : List PairPart) → All IsWholePart more
+    (hard : Bool) → is_hard q.1.tail ≡ hard → AreKept r limits others ps used j → IsCompletePart q
+    → (h : KeepsNext r limits used new q j k) → Joins hard h.kept j k → (more : List PairPart) → All IsCompletePart more
     → PartsTo r limits others (ps ++ q ∷ more) new k.directories.items k.parts.items more
-kept_by r limits others ps used new j k q true hard kept whole h joins more all =
-    let before = kept (q ∷ more) (All-cons IsWholePart q more whole all) in
+kept_by r limits others ps used new j k q true hard kept complete h joins more all =
+    let before = kept (q ∷ more) (All-cons IsCompletePart q more complete all) in
     let after = goes_on r limits others (ps ++ q ∷ more) used new j.directories.items j.parts.items q more h.kept before h.keeps hard in
     rw (joins.0, joins.1) after
-kept_by r limits others ps used new j k q false hard kept whole h joins more all =
-    let before = kept (q ∷ more) (All-cons IsWholePart q more whole all) in
+kept_by r limits others ps used new j k q false hard kept complete h joins more all =
+    let before = kept (q ∷ more) (All-cons IsCompletePart q more complete all) in
     let after = ends_here r limits others (ps ++ q ∷ more) used new j.directories.items j.parts.items q more h.kept before h.keeps hard in
     rw (joins.0, joins.1) after
 
 -- one part more
 kept_more : (r : Reading) (limits : Limits) (others : ℕ → ℕ) (ps : List PairPart) (used new : List Bool) (j k : Joined) (q : PairPart)
-    → AreKept r limits others ps used j → IsWholePart q → KeepsNext r limits used new q j k → AreKept r limits others (ps ++ q ∷ []) new k
-kept_more r limits others ps used new j k q kept whole h more all =
+    → AreKept r limits others ps used j → IsCompletePart q → KeepsNext r limits used new q j k → AreKept r limits others (ps ++ q ∷ []) new k
+kept_more r limits others ps used new j k q kept complete h more all =
     subst (λ (qs : List PairPart). PartsTo r limits others qs new k.directories.items k.parts.items more)
-    (sym (append_assoc ps (q ∷ []) more)) (kept_by r limits others ps used new j k q (is_hard q.1.tail) refl kept whole h h.joins more all)
+    (sym (append_assoc ps (q ∷ []) more)) (kept_by r limits others ps used new j k q (is_hard q.1.tail) refl kept complete h h.joins more all)
 
 -- none so far
 none_kept : (r : Reading) (limits : Limits) (others : ℕ → ℕ) (used : List Bool) (j : Joined) → length used ≡ r.count
     → Marks used others → j.directories.items ≡ [] → j.parts.items ≡ [] → AreKept r limits others [] used j
-none_kept r limits others used j len marks none_ended none_joined more whole =
-    rw (none_ended, none_joined) (none_gathered r limits others more used whole len marks)
+none_kept r limits others used j len marks none_ended none_joined more complete =
+    rw (none_ended, none_joined) (none_gathered r limits others more used complete len marks)
 
 -- what is marked so far
 pub kept_marks : (r : Reading) (limits : Limits) (others : ℕ → ℕ) (ps : List PairPart) (used : List Bool) (j : Joined)
     → AreKept r limits others ps used j → (length used ≡ r.count) × Marks used (λ b. others b + parts_use r b ps)
 kept_marks r limits others ps used j kept =
     let h = subst (λ (qs : List PairPart). PartsTo r limits others qs used j.directories.items j.parts.items []) (append-nil ps)
-    (kept [] (All-nil IsWholePart)) in
+    (kept [] (All-nil IsCompletePart)) in
     (h.len, λ b. let is = h.marks b in omega arith)
 
 -- ---- parts of the thread
@@ -139,22 +139,22 @@ module _ (r : Reading) (limits : Limits) (e : StoredEntry) (p : PairPart) (rest 
       (λ b. ap (pairs_name b) (sym (pairs_grow p rest q)) ∙ pairs_more b (p.0 ∷ pairs_of rest) q.0)
 
   gathers_one : (q : PairPart) (mid new : List Bool) (k : Joined) → GathersTo r limits e p rest (Some q.0) used j
-      → AddsBlocks used mid (q.0.0 ∷ q.0.1 ∷ []) → r.part q.0 ≡ Some q.1 → IsWholePart q → KeepsNext r limits mid new q j k
+      → AddsBlocks used mid (q.0.0 ∷ q.0.1 ∷ []) → r.part q.0 ≡ Some q.1 → IsCompletePart q → KeepsNext r limits mid new q j k
       → GathersTo r limits e p (rest ++ q ∷ []) (next q.1.tail) new k
-  gathers_one q mid new k h adds read whole keeps = record {
-    root = root_with q (Some q.0) h (record { read = read; whole = whole }) (front_with q.0 mid h adds);
+  gathers_one q mid new k h adds read complete keeps = record {
+    root = root_with q (Some q.0) h (record { read = read; complete = complete }) (front_with q.0 mid h adds);
     next_is = ap (next_after r) (sym (pairs_grow p rest q)) ∙ next_more r (p.0 ∷ pairs_of rest) q.0 q read;
-    kept = kept_more r limits (by_pairs (p.0 ∷ pairs_of (rest ++ q ∷ []))) (p ∷ rest) mid new j k q (mid_kept q mid (Some q.0) h adds) whole
+    kept = kept_more r limits (by_pairs (p.0 ∷ pairs_of (rest ++ q ∷ []))) (p ∷ rest) mid new j k q (mid_kept q mid (Some q.0) h adds) complete
         keeps;
     state = keeps.state ∙ ap (λ (n : ℕ). bit_xor n (little_endian q.1.delta)) h.state ∙ sym (delta_more (p ∷ rest) q);
   }
 
   pub gathers_more : (pair : Pair) (q : PairPart) (mid new : List Bool) (k : Joined) → GathersTo r limits e p rest (Some pair) used j
-      → AddsBlocks used mid (pair.0 ∷ pair.1 ∷ []) → q.0 ≡ pair → r.part pair ≡ Some q.1 → IsWholePart q
+      → AddsBlocks used mid (pair.0 ∷ pair.1 ∷ []) → q.0 ≡ pair → r.part pair ≡ Some q.1 → IsCompletePart q
       → KeepsNext r limits mid new q j k → GathersTo r limits e p (rest ++ q ∷ []) (next q.1.tail) new k
-  gathers_more pair q mid new k h adds at read whole keeps =
+  gathers_more pair q mid new k h adds at read complete keeps =
       gathers_one q mid new k (subst (λ (x : Pair). GathersTo r limits e p rest (Some x) used j) (sym at) h)
-      (subst (λ (x : Pair). AddsBlocks used mid (x.0 ∷ x.1 ∷ [])) (sym at) adds) (ap r.part at ∙ read) whole keeps
+      (subst (λ (x : Pair). AddsBlocks used mid (x.0 ∷ x.1 ∷ [])) (sym at) adds) (ap r.part at ∙ read) complete keeps
 
   -- ---- the end
 
@@ -171,7 +171,7 @@ module _ (r : Reading) (limits : Limits) (e : StoredEntry) (p : PairPart) (rest 
     };
     kept = all_gathered r limits (by_pairs (p.0 ∷ pairs_of rest)) (p ∷ rest) used j.directories.items j.parts.items [] refl
         (subst (λ (qs : List PairPart). PartsTo r limits (by_pairs (p.0 ∷ pairs_of rest)) qs used j.directories.items j.parts.items [])
-        (append-nil (p ∷ rest)) (h.kept [] (All-nil IsWholePart)));
+        (append-nil (p ∷ rest)) (h.kept [] (All-nil IsCompletePart)));
     state = h.state;
   }
 
@@ -198,7 +198,7 @@ pub first_kept : (r : Reading) (limits : Limits) (p : PairPart) (used new : List
 first_kept r limits p used new h j k none_ended none_joined none_moved keeps = record {
   root = root_alone r limits p used h;
   next_is = next_more r [] p.0 (with_entries p (h.superblock ∷ p.1.entries)) (ap r.part h.at ∙ h.read);
-  kept = kept_more r limits (by_pairs (p.0 ∷ [])) [] used new j k p (root_marks r limits p used h j none_ended none_joined) h.whole keeps;
+  kept = kept_more r limits (by_pairs (p.0 ∷ [])) [] used new j k p (root_marks r limits p used h j none_ended none_joined) h.complete keeps;
   state = keeps.state ∙ ap (λ (n : ℕ). bit_xor n (little_endian p.1.delta)) none_moved ∙ xor_comm 0 (little_endian p.1.delta);
 }
 
@@ -210,7 +210,7 @@ module _ (d : Disk) (limits : Limits) (f : MountFault) where
       → EntriesCause f (reading_of d) limits used (part_entries j.parts.items) p.1.entries → HasCause d f
   first_refused p used h j none_ended none_joined cause =
       let r = reading_of d in
-      let kept = root_marks r limits p used h j none_ended none_joined (p ∷ []) (All-cons IsWholePart p [] h.whole (All-nil IsWholePart)) in
+      let kept = root_marks r limits p used h j none_ended none_joined (p ∷ []) (All-cons IsCompletePart p [] h.complete (All-nil IsCompletePart)) in
       parts_refuse d f limits p h.superblock p.1.entries [] (root_alone r limits p used h) h.judged
       (part_refuses f r limits (by_pairs (p.0 ∷ [])) (p ∷ []) used j.directories.items j.parts.items p [] kept cause)
 
@@ -229,15 +229,15 @@ module _ (d : Disk) (limits : Limits) (f : MountFault) where
         (front_with (reading_of d) limits e p rest used j pair new h adds) cause
 
     pub part_refused : (q : PairPart) (new : List Bool) → AddsBlocks used new (pair.0 ∷ pair.1 ∷ []) → q.0 ≡ pair
-        → (reading_of d).part pair ≡ Some q.1 → IsWholePart q
+        → (reading_of d).part pair ≡ Some q.1 → IsCompletePart q
         → EntriesCause f (reading_of d) limits new (part_entries j.parts.items) q.1.entries → HasCause d f
-    part_refused q new adds at read whole cause =
+    part_refused q new adds at read complete cause =
         let r = reading_of d in
         let here = subst (λ (x : Pair). GathersTo r limits e p rest (Some x) used j) (sym at) h in
         let marked = subst (λ (x : Pair). AddsBlocks used new (x.0 ∷ x.1 ∷ [])) (sym at) adds in
-        let is_read : IsPartRead r q = record { read = ap r.part at ∙ read; whole = whole } in
+        let is_read : IsPartRead r q = record { read = ap r.part at ∙ read; complete = complete } in
         let front = front_with r limits e p rest used j q.0 new here marked in
-        let all = mid_kept r limits e p rest used j q new (Some q.0) here marked (q ∷ []) (All-cons IsWholePart q [] whole (All-nil IsWholePart)) in
+        let all = mid_kept r limits e p rest used j q new (Some q.0) here marked (q ∷ []) (All-cons IsCompletePart q [] complete (All-nil IsCompletePart)) in
         parts_refuse d f limits p e p.1.entries (rest ++ q ∷ []) (root_with r limits e p rest used j q (Some q.0) here is_read front) judged
         (part_refuses f r limits (by_pairs (p.0 ∷ pairs_of (rest ++ q ∷ []))) (p ∷ rest ++ q ∷ []) new j.directories.items j.parts.items q []
         all cause)
@@ -282,7 +282,7 @@ kept_len r limits p behind used j h =
 
 pub joined_rise : (r : Reading) (limits : Limits) (p : PairPart) (behind : Option Pair) (used : List Bool) (j : Joined)
     → IsKeptTo r limits p behind used j → Rise (part_entries j.parts.items)
-joined_rise r limits p behind used j h = (h.gathers.kept [] (All-nil IsWholePart)).rise
+joined_rise r limits p behind used j h = (h.gathers.kept [] (All-nil IsCompletePart)).rise
 
 -- ---- the root's part, of which the superblock was taken off
 

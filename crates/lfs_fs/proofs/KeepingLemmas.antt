@@ -15,8 +15,8 @@ use Rattle.lfs_meta.specs.Entry.{StoredEntry}
 use Rattle.lfs_meta.specs.Fits.{RiseFrom}
 use Rattle.lfs_meta.specs.Name.{Name, IsName}
 use Rattle.lfs_meta.specs.Laws.{NamesAreDecided}
-use Rattle.lfs_meta.specs.Whole.{IsWhole}
-use Rattle.lfs_meta.specs.Whole.{kind_takes_body, kind_takes_name}
+use Rattle.lfs_meta.specs.Complete.{IsComplete}
+use Rattle.lfs_meta.specs.Complete.{kind_takes_body, kind_takes_name}
 use Rattle.lfs_fs.specs.declared.limits.Limits.{Limits}
 use Rattle.lfs_fs.specs.Entry.{Entry, Body, Chain, body_length}
 use Rattle.lfs_fs.specs.Uses.{entry_uses, body_uses}
@@ -31,26 +31,26 @@ use Rattle.lfs_fs.proofs.ResolvedLemmas.{stood_for, resolved_is}
 
 -- ---- limits
 
-whole_name : (kind : Kind) (name : Name) → kind ≢ Super → stored_name_length kind name ≡ length name
-whole_name File name other = refl
-whole_name Dir name other = refl
-whole_name Super name other = absurd (other refl)
+complete_name : (kind : Kind) (name : Name) → kind ≢ Super → stored_name_length kind name ≡ length name
+complete_name File name other = refl
+complete_name Dir name other = refl
+complete_name Super name other = absurd (other refl)
 
 pub long_name : (l : Limits) (e : StoredEntry) → e.kind ≢ Super → l.name < length e.name → IsOversized l e
-long_name l e other long = let same = whole_name e.kind e.name other in inl (omega arith)
+long_name l e other long = let same = complete_name e.kind e.name other in inl (omega arith)
 
-whole_size : (kind : Kind) (body : StoredBody) → kind ≢ Super → kind_takes_body kind body ≡ true
+complete_size : (kind : Kind) (body : StoredBody) → kind ≢ Super → kind_takes_body kind body ≡ true
     → stored_size kind body ≡ stored_length body
-whole_size File (Stored_inline bytes) other takes' = refl
-whole_size File (Stored_chain head size) other takes' = refl
-whole_size File (Stored_directory first second) other takes' = refl
-whole_size Dir (Stored_inline bytes) other takes' = cc
-whole_size Dir (Stored_chain head size) other takes' = cc
-whole_size Dir (Stored_directory first second) other takes' = refl
-whole_size Super body other takes' = absurd (other refl)
+complete_size File (Stored_inline bytes) other takes' = refl
+complete_size File (Stored_chain head size) other takes' = refl
+complete_size File (Stored_directory first second) other takes' = refl
+complete_size Dir (Stored_inline bytes) other takes' = cc
+complete_size Dir (Stored_chain head size) other takes' = cc
+complete_size Dir (Stored_directory first second) other takes' = refl
+complete_size Super body other takes' = absurd (other refl)
 
-pub long_file : (l : Limits) (e : StoredEntry) → e.kind ≢ Super → IsWhole e → l.file < stored_length e.body → IsOversized l e
-long_file l e other whole long = let same = whole_size e.kind e.body other whole.body in inr (inl (omega arith))
+pub long_file : (l : Limits) (e : StoredEntry) → e.kind ≢ Super → IsComplete e → l.file < stored_length e.body → IsOversized l e
+long_file l e other complete long = let same = complete_size e.kind e.body other complete.body in inr (inl (omega arith))
 
 -- the attributes decide, where the name and the size fit
 pub attributes_decide : (fit : Bool) (l : Limits) (e : StoredEntry) (a : Attributes) → a ≡ e.attributes → length e.name ≤ l.name

@@ -173,9 +173,9 @@ directory_before d ds so_far is = ap (λ (ls : List Link). ls ++ reverse (links_
 -- what is taken off was there, and what is left begins what was
 pub taken_off : (ks rest : List Link) (n : ℕ) (k : Link) → take n ks ≡ rest ++ k ∷ [] → Contains ks k × ((gone : List Link) × (ks ≡ rest ++ gone))
 taken_off ks rest n k is =
-    let whole : ks ≡ (rest ++ k ∷ []) ++ drop n ks = sym (take-append-drop n ks) ∙ ap (λ (ls : List Link). ls ++ drop n ks) is in (
-      subst (λ (ls : List Link). Contains ls k) (sym whole) (Contains-append_left (rest ++ k ∷ []) (drop n ks) k (Contains-push rest k)),
-      (k ∷ drop n ks, whole ∙ append_assoc rest (k ∷ []) (drop n ks)),
+    let complete : ks ≡ (rest ++ k ∷ []) ++ drop n ks = sym (take-append-drop n ks) ∙ ap (λ (ls : List Link). ls ++ drop n ks) is in (
+      subst (λ (ls : List Link). Contains ls k) (sym complete) (Contains-append_left (rest ++ k ∷ []) (drop n ks) k (Contains-push rest k)),
+      (k ∷ drop n ks, complete ∙ append_assoc rest (k ∷ []) (drop n ks)),
     )
 
 -- ---- what is known

@@ -9,7 +9,7 @@ use Rattle.lfs_block.specs.Disk.{Disk}
 use Rattle.lfs_block.specs.declared.mount_fault.MountFault.TheVariants as fault
 use Rattle.lfs_meta.specs.Body.{Pair}
 use Rattle.lfs_meta.specs.Entry.{StoredEntry}
-use Rattle.lfs_meta.specs.HeldLaws.{PairsWithoutAPartHaveACause, HeldPartsAreWhole}
+use Rattle.lfs_meta.specs.HeldLaws.{PairsWithoutAPartHaveACause, HeldPartsAreComplete}
 use Rattle.lfs_meta.specs.Laws.{NamesAreDecided}
 use Rattle.lfs_meta.specs.Part.{StoredPart}
 use Rattle.lfs_file.specs.Laws.{FoundAreChains, ContentHasLength, ChainsDiffer}
@@ -117,7 +117,7 @@ root_part : (d : Disk) (ps : List Pair) → IsThread (reading_of d) ps → Conta
 root_part d ps thread there = some_part (reading_of d) root ((reading_of d).part root) refl
     (All-contains (λ (p : Pair). IsSome ((reading_of d).part p)) ps root thread.parts there)
 
-pub without_cause_mount : PairsWithoutAPartHaveACause → HeldPartsAreWhole → NamesAreDecided → FoundAreChains → ContentHasLength
+pub without_cause_mount : PairsWithoutAPartHaveACause → HeldPartsAreComplete → NamesAreDecided → FoundAreChains → ContentHasLength
     → ChainsDiffer → WithoutCauseMount
 without_cause_mount partless held names chains lengths differ d disk none never =
     let c : IsClear d = record {

@@ -281,9 +281,9 @@ no_order : (r : Reading) (v : Volume) (h : Holds r v) → IsSound (here r v h) �
 no_order r v h sound c =
     let begins = front_of_thread r h.pairs c.front h.is_thread c.is_front in
     let all = map (link_at r) c.front ++ map (link_at r) begins.0 in
-    let whole : map (link_at r) h.pairs ≡ all = ap (map (link_at r)) begins.1 ∙ map-append (link_at r) c.front begins.0 in
+    let complete : map (link_at r) h.pairs ≡ all = ap (map (link_at r)) begins.1 ∙ map-append (link_at r) c.front begins.0 in
     let order : All (λ (d : Directory). Rise (entries d)) (pieces all) =
-    subst (λ (ls : List Link). All (λ (d : Directory). Rise (entries d)) (pieces ls)) whole sound.order in
+    subst (λ (ls : List Link). All (λ (d : Directory). Rise (entries d)) (pieces ls)) complete sound.order in
     ordered (directories_at r c.front) (pieces all) (extension (directories_at r c.front) (pieces all) c.fault.directory
     (pieces_extend (map (link_at r) c.front) (map (link_at r) begins.0)) c.fault.there) order
     c.fault.before c.fault.left c.fault.right c.fault.after c.fault.neighbours c.fault.fall

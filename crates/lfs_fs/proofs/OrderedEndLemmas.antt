@@ -133,14 +133,14 @@ walk_end v rows opened all walk =
       listed = record {
         rise = rows_rise rows (subst PathsRise (append-nil (row_paths rows)) walk.rise);
         right = walk.right;
-        whole = λ p e there.
+        complete = λ p e there.
             let row = contains-unmap (λ (r : Row). r.path) rows p (record { path = p; entry = e }) (listed p e there) in
             let right : HasRow v row.0 = All-contains (HasRow v) rows row.0 walk.right row.1 in
             let here : entry_at v p ≡ Some row.0.entry = subst (λ (q : Path). entry_at v q ≡ Some row.0.entry) row.2 right in
             let same : e ≡ row.0.entry = same_Some e row.0.entry (sym there ∙ here) in
-            let whole' : row.0 ≡ record { path = p; entry = e } = ap (λ (q : Path). record { path = q; entry = row.0.entry }) row.2
+            let complete' : row.0 ≡ record { path = p; entry = e } = ap (λ (q : Path). record { path = q; entry = row.0.entry }) row.2
             ∙ ap (λ (f : Entry). record { path = p; entry = f }) (sym same) in
-            subst (Contains rows) whole' row.1;
+            subst (Contains rows) complete' row.1;
       };
       names = λ k. omega (arith, walk.counts k, times k, flagged_all (names_of k) v.directories opened walk.flags all);
       counted = record {

@@ -9,7 +9,7 @@ use Rattle.std.proofs.lemmas.List.{flat_map_more}
 use Rattle.std.proofs.lemmas.List.Sums.{sum_by-cons}
 use Rattle.lfs_block.specs.declared.mount_fault.MountFault.{MountFault}
 use Rattle.lfs_block.specs.declared.mount_fault.MountFault.TheVariants as fault
-use Rattle.lfs_meta.specs.Whole.{IsWhole}
+use Rattle.lfs_meta.specs.Complete.{IsComplete}
 use Rattle.lfs_meta.proofs.PartlessLemmas.{any_later}
 use Rattle.lfs_fs.specs.declared.limits.Limits.{Limits}
 use Rattle.lfs_fs.specs.Used.{marked, Marks}
@@ -24,9 +24,9 @@ use Rattle.lfs_fs.specs.Gathering.{part_entries, as_directory, outlined_pieces, 
 use Rattle.lfs_fs.proofs.GatheringLemmas.{any_here}
 use Rattle.lfs_fs.proofs.FoldersLemmas.{cut_here, all_joined, outlined_cut, joined_more, joined_ends, joined_last}
 
--- the entries of a part are whole
-abbrev pub IsWholePart : PairPart → Type 0
-IsWholePart p = AllByRecursion IsWhole p.1.entries
+-- the entries of a part are complete
+abbrev pub IsCompletePart : PairPart → Type 0
+IsCompletePart p = AllByRecursion IsComplete p.1.entries
 
 -- something is wrong with an entry of a part
 abbrev pub HasFault : MountFault → Reading → Limits → PairPart → Type 0
@@ -35,7 +35,7 @@ HasFault f r limits p = Any (EntryFault f r limits) p.1.entries
 -- the directories so far, the parts of the one that may go on, and the parts that are left
 pub record PartsTo (r : Reading) (limits : Limits) (others : ℕ → ℕ) (ps : List PairPart) (used : List Bool)
     (directories : List Directory) (joined : List Part) (rest : List PairPart) : Type 0 where
-  pub whole : All IsWholePart rest
+  pub complete : All IsCompletePart rest
   pub rise : Rise (part_entries joined)
   pub rises : All (λ d. Rise (entries d)) directories
   pub is : directories ++ all_joined joined (outlined_pieces r rest) ≡ outlined_pieces r ps
@@ -44,10 +44,10 @@ pub record PartsTo (r : Reading) (limits : Limits) (others : ℕ → ℕ) (ps : 
   pub faults : (f : MountFault) → Any (HasFault f r limits) rest → Any (HasFault f r limits) ps
   pub proper : All (IsProperPart r limits) rest → All (IsProperPart r limits) ps
 
-pub none_gathered : (r : Reading) (limits : Limits) (others : ℕ → ℕ) (ps : List PairPart) (used : List Bool) → All IsWholePart ps
+pub none_gathered : (r : Reading) (limits : Limits) (others : ℕ → ℕ) (ps : List PairPart) (used : List Bool) → All IsCompletePart ps
     → length used ≡ r.count → Marks used others → PartsTo r limits others ps used [] [] ps
-none_gathered r limits others ps used whole len marks = record {
-  whole = whole;
+none_gathered r limits others ps used complete len marks = record {
+  complete = complete;
   rise = tt;
   rises = All-nil (λ (d : Directory). Rise (entries d));
   is = refl;
@@ -77,7 +77,7 @@ gathered_so : (r : Reading) (limits : Limits) (others : ℕ → ℕ) (ps : List 
     → these_directories ++ all_joined these (outlined_pieces r rest) ≡ directories ++ all_joined joined (outlined_pieces r (p ∷ rest))
     → PartsTo r limits others ps new these_directories these rest
 gathered_so r limits others ps used new directories these_directories joined these p rest kept h keeps rise rises is = record {
-  whole = All-tail IsWholePart p rest h.whole;
+  complete = All-tail IsCompletePart p rest h.complete;
   rise = rise;
   rises = rises;
   is = is ∙ h.is;

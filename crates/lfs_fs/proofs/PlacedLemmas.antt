@@ -74,7 +74,7 @@ next_in front x n is = omega (arith, is, length-append front (x ∷ []))
 
 here_in : {X : Type 0} (xs front : List X) (x : X) (rest : List X) (n : ℕ) → n ≡ length front → xs ≡ front ++ x ∷ rest
     → slice_get xs n ≡ Some x
-here_in xs front x rest n is whole = ap (slice_get xs) is ∙ ap (λ ys. slice_get ys (length front)) whole ∙ slice_get_seam front x rest
+here_in xs front x rest n is complete = ap (slice_get xs) is ∙ ap (λ ys. slice_get ys (length front)) complete ∙ slice_get_seam front x rest
 
 -- places of a part, and the entries there
 module _ (v : Volume) (k i : ℕ) (d : Directory) (at : slice_get v.directories i ≡ Some d) where
@@ -82,12 +82,12 @@ module _ (v : Volume) (k i : ℕ) (d : Directory) (at : slice_get v.directories 
       → p.entries ≡ front ++ rest
       → (map (listed_at v) (places_from (suc k) i j n (length rest)) ≡ map (listed_below (suc k)) rest)
       × ArePlaces v (places_from (suc k) i j n (length rest))
-  listed_from j n p front [] there is whole = (refl, All-nil (λ (x : Place). IsSome (entry_placed v x)))
-  listed_from j n p front (e ∷ rest) there is whole =
+  listed_from j n p front [] there is complete = (refl, All-nil (λ (x : Place). IsSome (entry_placed v x)))
+  listed_from j n p front (e ∷ rest) there is complete =
       let x : Place = record { depth = suc k; directory = i; part = j; entry = n } in
-      let one : entry_placed v x ≡ Some e = placed_at v k i j n d p e at there (here_in p.entries front e rest n is whole) in
+      let one : entry_placed v x ≡ Some e = placed_at v k i j n d p e at there (here_in p.entries front e rest n is complete) in
       let more = listed_from j (suc n) p (front ++ e ∷ []) rest there (next_in front e n is)
-      (whole ∙ sym (append_assoc front (e ∷ []) rest)) in (
+      (complete ∙ sym (append_assoc front (e ∷ []) rest)) in (
         ap (λ (y : Listed). y ∷ map (listed_at v) (places_from (suc k) i j (suc n) (length rest))) (listed_placed v x e one)
             ∙ ap (λ (ys : List Listed). listed_below (suc k) e ∷ ys) more.0,
         All-cons (λ (y : Place). IsSome (entry_placed v y)) x (places_from (suc k) i j (suc n) (length rest)) (is_place v x e one) more.1,
@@ -96,10 +96,10 @@ module _ (v : Volume) (k i : ℕ) (d : Directory) (at : slice_get v.directories 
   listed_in : (j : ℕ) (front rest : List Part) → j ≡ length front → parts d ≡ front ++ rest
       → (map (listed_at v) (places_in (suc k) i j rest) ≡ map (listed_below (suc k)) (flat_map (λ p. p.entries) rest))
       × ArePlaces v (places_in (suc k) i j rest)
-  listed_in j front [] is whole = (refl, All-nil (λ (x : Place). IsSome (entry_placed v x)))
-  listed_in j front (p ∷ rest) is whole =
-      let first = listed_from j 0 p [] p.entries (here_in (parts d) front p rest j is whole) refl refl in
-      let more = listed_in (suc j) (front ++ p ∷ []) rest (next_in front p j is) (whole ∙ sym (append_assoc front (p ∷ []) rest)) in
+  listed_in j front [] is complete = (refl, All-nil (λ (x : Place). IsSome (entry_placed v x)))
+  listed_in j front (p ∷ rest) is complete =
+      let first = listed_from j 0 p [] p.entries (here_in (parts d) front p rest j is complete) refl refl in
+      let more = listed_in (suc j) (front ++ p ∷ []) rest (next_in front p j is) (complete ∙ sym (append_assoc front (p ∷ []) rest)) in
       let here = places_from (suc k) i j 0 (length p.entries) in
       let later = places_in (suc k) i (suc j) rest in (
         map-append (listed_at v) here later ∙ ap (λ (ys : List Listed). ys ++ map (listed_at v) later) first.0

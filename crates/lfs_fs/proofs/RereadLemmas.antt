@@ -11,8 +11,8 @@ use Rattle.lfs_meta.specs.declared.tail.Tail.{Tail}
 use Rattle.lfs_meta.specs.Attribute.{Attributes}
 use Rattle.lfs_meta.specs.Body.{Pair}
 use Rattle.lfs_meta.specs.Entry.{StoredEntry}
-use Rattle.lfs_meta.specs.HeldLaws.{HeldPartsAreWhole, IsHeldEntry}
-use Rattle.lfs_meta.specs.Whole.{IsWhole}
+use Rattle.lfs_meta.specs.HeldLaws.{HeldPartsAreComplete, IsHeldEntry}
+use Rattle.lfs_meta.specs.Complete.{IsComplete}
 use Rattle.lfs_fs.specs.declared.joined.Joined.{Joined}
 use Rattle.lfs_fs.specs.declared.limits.Limits.{Limits}
 use Rattle.lfs_fs.specs.Pair.{root, same_pair}
@@ -43,7 +43,7 @@ use Rattle.lfs_fs.proofs.GatheredLemmas.{Found, gathered}
 use Rattle.lfs_fs.proofs.JoinedLemmas.{GathersTo, all_kept, by_pairs, fewer_kept, first_kept, gathers_more, kept_marks, root_alone, root_with_rest}
 use Rattle.lfs_fs.proofs.MountLemmas.{walked_sound}
 use Rattle.lfs_fs.proofs.OutlinedLemmas.{body_uses_same, rise_outlined, sum_same}
-use Rattle.lfs_fs.proofs.PartsLemmas.{IsWholePart}
+use Rattle.lfs_fs.proofs.PartsLemmas.{IsCompletePart}
 use Rattle.lfs_fs.proofs.ResolvedLemmas.{all_resolved}
 use Rattle.lfs_fs.proofs.StandsLemmas.{all_are_resolved, all_resolve}
 use Rattle.lfs_fs.proofs.ThreadReadLemmas.{marked_once}
@@ -109,21 +109,21 @@ module _ (r : Reading) (limits : Limits) (bytes : List ℕ) (attributes : Attrib
     state = t.state ∙ ap (λ (p : Part). bit_xor old.state p.delta) part_is;
   }
 
--- the entries that stand there are whole
-pub known_whole : HeldPartsAreWhole → (d : Disk) (limits : Limits) (bytes : List ℕ) (attributes : Attributes) (k : Link)
+-- the entries that stand there are complete
+pub known_complete : HeldPartsAreComplete → (d : Disk) (limits : Limits) (bytes : List ℕ) (attributes : Attributes) (k : Link)
     (h : IsKnownLink (reading_of d) limits bytes attributes k) → IsDisk d → k.part.pair.0 < d.count → k.part.pair.1 < d.count
-    → AllByRecursion IsWhole h.stored.others
-known_whole law d limits bytes attributes k h disk first second =
+    → AllByRecursion IsComplete h.stored.others
+known_complete law d limits bytes attributes k h disk first second =
     let r = reading_of d in
     let at = pair_is r limits bytes attributes k h in
     let all = law d h.link.part.pair h.stored.stored disk (subst (λ (p : Pair). p.0 < d.count) at first)
     (subst (λ (p : Pair). p.1 < d.count) at second) h.stored.read in
-    recursion_from_All IsWhole h.stored.others (All-weaker IsHeldEntry IsWhole (λ e held. held.whole) h.stored.others
+    recursion_from_All IsComplete h.stored.others (All-weaker IsHeldEntry IsComplete (λ e held. held.complete) h.stored.others
     (behind_superblock IsHeldEntry (same_pair h.link.part.pair root) (superblock_entry bytes attributes) h.stored.others
     (subst (All IsHeldEntry) h.stored.entries all)))
 
 -- elsewhere than at the root's pair
-pub keeps_known : HeldPartsAreWhole → (d : Disk) (limits : Limits) (bytes : List ℕ) (attributes : Attributes) (k : Link) (pair : Pair)
+pub keeps_known : HeldPartsAreComplete → (d : Disk) (limits : Limits) (bytes : List ℕ) (attributes : Attributes) (k : Link) (pair : Pair)
     (h : IsKnownLink (reading_of d) limits bytes attributes k) → IsDisk d → pair.0 < d.count → pair.1 < d.count → pair ≢ root
     → k.part.pair ≡ pair → (used more : List Bool) (behind : Option Pair) (old new : Joined) → TakesOver used more k old new
     → behind ≡ next k.tail → KeepsPair (reading_of d) limits used more pair behind old new
@@ -137,14 +137,14 @@ keeps_known law d limits bytes attributes k pair h disk first second other at us
       at = there;
       read = ap r.part (sym there) ∙ h.stored.read ∙ ap (λ (es : List StoredEntry). Some (record { entries = es; tail = s.tail; delta = s.delta }))
           (h.stored.entries ∙ others_alone bytes attributes h.link.part.pair h.stored.others (λ is. other (sym there ∙ is)));
-      whole = known_whole law d limits bytes attributes k h disk (subst (λ (p : Pair). p.0 < d.count) (sym at) first)
+      complete = known_complete law d limits bytes attributes k h disk (subst (λ (p : Pair). p.0 < d.count) (sym at) first)
           (subst (λ (p : Pair). p.1 < d.count) (sym at) second);
       keeps = next_known r limits bytes attributes k h used more old new t;
       behind_is = behind_is ∙ ap next (tail_is r limits bytes attributes k h);
     }
 
 -- at the root's pair
-pub starts_known : HeldPartsAreWhole → (d : Disk) (limits : Limits) (attributes : Attributes) (k : Link) (bytes : List ℕ)
+pub starts_known : HeldPartsAreComplete → (d : Disk) (limits : Limits) (attributes : Attributes) (k : Link) (bytes : List ℕ)
     (judged : SaysLimits d.size d.count limits (superblock_entry bytes attributes))
     (h : IsKnownLink (reading_of d) limits bytes attributes k) → IsDisk d → k.part.pair ≡ root
     → (fresh used more : List Bool) (behind : Option Pair) (old new : Joined) → length fresh ≡ d.count → Marks fresh (λ b. 0)
@@ -166,7 +166,7 @@ starts_known law d limits attributes k bytes judged h disk at fresh used more be
         read = ap r.part (sym there) ∙ h.stored.read
             ∙ ap (λ (es : List StoredEntry). Some (record { entries = es; tail = s.tail; delta = s.delta }))
             (root_superblock r bytes attributes h.link h.stored there);
-        whole = known_whole law d limits bytes attributes k h disk (subst (λ (p : Pair). p.0 < d.count) (sym at) first)
+        complete = known_complete law d limits bytes attributes k h disk (subst (λ (p : Pair). p.0 < d.count) (sym at) first)
             (subst (λ (p : Pair). p.1 < d.count) (sym at) second);
         judged = judged;
         len = adds.len ∙ len;
@@ -202,7 +202,7 @@ starts_read r limits attributes was p e used more behind old new h taken judged 
         superblock = e;
         at = is.at;
         read = ap r.part (sym is.at) ∙ is.part.read;
-        whole = is.part.whole.1;
+        complete = is.part.complete.1;
         judged = judged;
         len = is.len;
         marks = is.marks;
@@ -235,7 +235,7 @@ module _ (r : Reading) (limits : Limits) (attributes : Attributes) (used : List 
     gathered_len = (kept_marks r limits (by_pairs (s.part.0 ∷ pairs_of h.0)) (s.part ∷ h.0) now j h.1.kept).0
 
     pub gathered_rise : Rise (part_entries j.parts.items)
-    gathered_rise = (h.1.kept [] (All-nil IsWholePart)).rise
+    gathered_rise = (h.1.kept [] (All-nil IsCompletePart)).rise
 
     -- the root's pair doesn't come once more
     pub not_the_root : (mid : List Bool) → AddsBlocks now mid (pair.0 ∷ pair.1 ∷ []) → pair ≢ root
@@ -254,7 +254,7 @@ module _ (r : Reading) (limits : Limits) (attributes : Attributes) (used : List 
       h.0 ++ keeps.part ∷ [],
       subst (λ (o : Option Pair).
           GathersTo r limits s.root.superblock s.part (h.0 ++ keeps.part ∷ []) o new k) (sym keeps.behind_is)
-          (gathers_more r limits s.root.superblock s.part h.0 now j pair keeps.part mid new k h.1 adds keeps.at keeps.read keeps.whole keeps.keeps),
+          (gathers_more r limits s.root.superblock s.part h.0 now j pair keeps.part mid new k h.1 adds keeps.at keeps.read keeps.complete keeps.keeps),
     )
 
     pub fewer_left : (mid new : List Bool) (k : Joined) (after : Option Pair) → AddsBlocks now mid (pair.0 ∷ pair.1 ∷ [])

@@ -107,7 +107,7 @@ root_rows size count l a =
       rise = (All-nil (λ (s : Row). path_precedes [] s.path ≡ true), tt);
       right = All-cons (λ (r : Row). entry_at v r.path ≡ Some r.entry) (root_row v) [] refl
           (All-nil (λ (r : Row). entry_at v r.path ≡ Some r.entry));
-      whole = λ p e is. only_root size count l a p e is;
+      complete = λ p e is. only_root size count l a p e is;
     }
 
 -- the value that is mounted

@@ -59,7 +59,7 @@ rows_same (r ∷ rows) (s ∷ others) h k there back =
 
 -- each row of one list is a row of the other
 rows_contained : (at : Path → Option Entry) (rows others : List Row) → AreRows at rows → AreRows at others → All (Contains others) rows
-rows_contained at rows others h k i d within = k.whole (get_or rows i d).path (get_or rows i d).entry (h.right i d within)
+rows_contained at rows others h k i d within = k.complete (get_or rows i d).path (get_or rows i d).entry (h.right i d within)
 
 pub rows_are_unique : RowsAreUnique
 rows_are_unique at rows others h k = rows_same rows others h.rise k.rise (rows_contained at rows others h k)

@@ -260,12 +260,12 @@ settled d c f =
     let state : ℕ = delta_of (thread (directories_at (reading_of d) f.pairs)) in
     elim (zero_or_not (move_type state)) [
       | inl still ↦ elim (zero_or_not (orphan_bit state)) [
-        | inl whole ↦ elim (zero_or_not state) [
+        | inl complete ↦ elim (zero_or_not state) [
           | inl is ↦ is
           | inr other ↦ absurd (c.none fault.UnknownState tt (record {
             pairs = f.pairs;
             is_thread = f.is_thread;
-            is = (other, still, whole);
+            is = (other, still, complete);
           }))
         ]
         | inr set ↦ absurd (c.none fault.Orphan tt (inr (record { pairs = f.pairs; is_thread = f.is_thread; is = (still, omega arith) })))

@@ -129,13 +129,13 @@ stored_step r bytes attributes l h = ap tail_of h.read ∙ ap next h.tail
 pub stored_at : (r : Reading) (bytes : List ℕ) (attributes : Attributes) (pair : Pair) (stored : StoredPart) (others : List StoredEntry)
     → r.part pair ≡ Some stored → stored.entries ≡ stored_before bytes attributes pair others → All (IsResolved r) others
     → IsStored r bytes attributes (link_at r pair)
-stored_at r bytes attributes pair stored others read is whole =
+stored_at r bytes attributes pair stored others read is complete =
     subst (IsStored r bytes attributes) (sym (ap (link_of r pair) read)) (record {
       stored = stored;
       read = read;
       others = others;
       entries = is;
-      stands = rw (others_resolved r bytes attributes pair stored others is) (each_stands r others whole);
+      stands = rw (others_resolved r bytes attributes pair stored others is) (each_stands r others complete);
       tail = refl;
       delta = refl;
       clean = refl;

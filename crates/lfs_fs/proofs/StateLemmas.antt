@@ -19,8 +19,8 @@ pub mixed : (w r f o : ℕ) → w < 2 ^ 32 → f < 2 ^ 32 → bit_xor (w + 2 ^ 3
 mixed w r f o small less =
     let left : w + 2 ^ 32 * r ≡ r * 2 ^ 32 + w = omega arith in
     let right : f + 2 ^ 32 * o ≡ o * 2 ^ 32 + f = omega arith in
-    let whole : bit_xor (r * 2 ^ 32 + w) (o * 2 ^ 32 + f) ≡ bit_xor r o * 2 ^ 32 + bit_xor w f = xor_block 32 r o w f small less in
-    ap (λ x. bit_xor x (f + 2 ^ 32 * o)) left ∙ ap (λ x. bit_xor (r * 2 ^ 32 + w) x) right ∙ whole ∙ omega arith
+    let complete : bit_xor (r * 2 ^ 32 + w) (o * 2 ^ 32 + f) ≡ bit_xor r o * 2 ^ 32 + bit_xor w f = xor_block 32 r o w f small less in
+    ap (λ x. bit_xor x (f + 2 ^ 32 * o)) left ∙ ap (λ x. bit_xor (r * 2 ^ 32 + w) x) right ∙ complete ∙ omega arith
 
 -- words and what they spell
 pub spelled : (word rest : ℕ) → word < 2 ^ 32 → rest < 2 ^ 64 → little_endian (little_bytes 4 word ++ little_bytes 8 rest)

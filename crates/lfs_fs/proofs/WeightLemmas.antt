@@ -26,8 +26,8 @@ bodies_weigh_as_stored r (Stored_directory first second) = omega arith
 pub entries_weigh_as_stored : EntriesWeighAsStored
 entries_weigh_as_stored r s e is =
     let body : 4 + length (body_bytes s.body) ≡ body_weight (resolved_body r s.body) = bodies_weigh_as_stored r s.body in
-    let whole : stored_weight s ≡ weight (stood_for r s) = omega (arith, body) in
-    whole ∙ ap weight (sym (one_resolved r s e is))
+    let complete : stored_weight s ≡ weight (stood_for r s) = omega (arith, body) in
+    complete ∙ ap weight (sym (one_resolved r s e is))
 
 pub superblocks_weigh_as_stored : SuperblocksWeighAsStored
 superblocks_weigh_as_stored bytes attributes len = omega (arith, len)

@@ -52,7 +52,7 @@ pub record IsThread (r : Reading) (ps : List Pair) : Type 0 where
 
 -- a list begins another one
 abbrev pub Begins : List Pair → List Pair → Type 0
-Begins front whole = (rest : List Pair) × (whole ≡ front ++ rest)
+Begins front complete = (rest : List Pair) × (complete ≡ front ++ rest)
 
 -- the law: of two fronts of one image, one begins the other
 abbrev pub FrontsBeginEachOther : Type 0

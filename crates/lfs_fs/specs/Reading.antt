@@ -7,7 +7,7 @@ use Rattle.lfs_meta.specs.LiveBlock.{stored_part_of}
 use Rattle.lfs_file.specs.SkipList.{chain_of}
 use Rattle.lfs_file.specs.Content.{content}
 
--- `part` is what a pair holds where all its entries are whole, `chain` the blocks of a head and a size where there are
+-- `part` is what a pair holds where all its entries are complete, `chain` the blocks of a head and a size where there are
 -- some, `content` what so many bytes of blocks are
 pub record Reading : Type 0 where
   pub size : ℕ

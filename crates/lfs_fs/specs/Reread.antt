@@ -4,7 +4,7 @@ use Rattle.std.specs.List.{AllByRecursion}
 use Rattle.lfs_block.specs.Disk.{Disk, IsDisk}
 use Rattle.lfs_meta.specs.Attribute.{Attributes}
 use Rattle.lfs_meta.specs.Body.{Pair}
-use Rattle.lfs_meta.specs.Whole.{IsWhole}
+use Rattle.lfs_meta.specs.Complete.{IsComplete}
 use Rattle.lfs_fs.specs.declared.joined.Joined.{Joined}
 use Rattle.lfs_fs.specs.declared.limits.Limits.{Limits}
 use Rattle.lfs_fs.specs.Entry.{Body, Inline, Chain, Directory_at}
@@ -81,7 +81,7 @@ pub record KeepsPair (r : Reading) (limits : Limits) (used more : List Bool) (pa
   pub part : PairPart
   pub at : part.0 ≡ pair
   pub read : r.part pair ≡ Some part.1
-  pub whole : AllByRecursion IsWhole part.1.entries
+  pub complete : AllByRecursion IsComplete part.1.entries
   pub keeps : KeepsNext r limits used more part old new
   pub behind_is : behind ≡ next part.1.tail
 

@@ -29,7 +29,7 @@ RowsRise (r ∷ rs) = All (λ s. path_precedes r.path s.path ≡ true) rs × Row
 pub record AreRows (at : Path → Option Entry) (rows : List Row) : Type 0 where
   pub rise : RowsRise rows
   pub right : All (λ r. at r.path ≡ Some r.entry) rows
-  pub whole : (p : Path) (e : Entry) → at p ≡ Some e → Contains rows (record { path = p; entry = e })
+  pub complete : (p : Path) (e : Entry) → at p ≡ Some e → Contains rows (record { path = p; entry = e })
 
 -- the law: one list has the rows of a map from paths
 abbrev pub RowsAreUnique : Type 0

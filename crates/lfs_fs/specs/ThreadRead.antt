@@ -2,7 +2,7 @@
 use Rattle.std.specs.Prelude.{◌≡◌, Bool, List, [], ◌∷◌, ◌++◌, length, map, Some, All}
 use Rattle.std.specs.List.{AllByRecursion}
 use Rattle.lfs_meta.specs.Body.{Pair}
-use Rattle.lfs_meta.specs.Whole.{IsWhole}
+use Rattle.lfs_meta.specs.Complete.{IsComplete}
 use Rattle.lfs_fs.specs.Pair.{root}
 use Rattle.lfs_meta.specs.Entry.{StoredEntry}
 use Rattle.lfs_fs.specs.declared.joined.Joined.{Joined}
@@ -17,10 +17,10 @@ use Rattle.lfs_fs.specs.Used.{Marks}
 abbrev pub pairs_of : List PairPart → List Pair
 pairs_of ps = map (λ p. p.0) ps
 
--- a part is what its pair holds, and all its entries are whole
+-- a part is what its pair holds, and all its entries are complete
 pub record IsPartRead (r : Reading) (p : PairPart) : Type 0 where
   pub read : r.part p.0 ≡ Some p.1
-  pub whole : AllByRecursion IsWhole p.1.entries
+  pub complete : AllByRecursion IsComplete p.1.entries
 
 -- the part is the one of the root's first pair, whose blocks are marked
 pub record IsRootRead (r : Reading) (p : PairPart) (used : List Bool) : Type 0 where
@@ -34,7 +34,7 @@ pub record IsRootTaken (r : Reading) (limits : Limits) (p : PairPart) (used : Li
   pub superblock : StoredEntry
   pub at : p.0 ≡ root
   pub read : r.part root ≡ Some (with_entries p (superblock ∷ p.1.entries)).1
-  pub whole : AllByRecursion IsWhole p.1.entries
+  pub complete : AllByRecursion IsComplete p.1.entries
   pub judged : SaysLimits r.size r.count limits superblock
   pub len : length used ≡ r.count
   pub marks : Marks used (λ b. pairs_name b (root ∷ []))

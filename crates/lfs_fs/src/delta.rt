@@ -41,14 +41,14 @@ impl Delta {
     ghost use Rattle.std.specs.Prelude.{◌≡◌, ◌≢◌, MatchBool, bit_xor};
     ghost use Rattle.lfs_fs.specs.State.{little_endian, move_type, orphan_bit};
 
-    /// The delta that changes nothing. Takes no memory.
+    /// The delta that changes nothing.
     pub fn none() -> Delta
         ensures { result ≡ 0 }
     {
         Delta { word: 0, rest: 0 }
     }
 
-    /// The delta that twelve bytes spell. Takes no memory.
+    /// The delta that twelve bytes spell.
     pub fn of(bytes: &[u8; 12]) -> Delta
         ensures { result ≡ little_endian bytes.now }
     {
@@ -58,14 +58,14 @@ impl Delta {
         }
     }
 
-    /// The twelve bytes that spell it. Takes no memory.
+    /// The twelve bytes that spell it.
     pub fn to_bytes(&self) -> [u8; 12]
         ensures { little_endian result ≡ self.now }
     {
         bytes_of(self.word, self.rest)
     }
 
-    /// Both deltas together, bit by bit one or the other. Takes no memory.
+    /// Both deltas together, bit by bit one or the other.
     pub fn joined(&self, other: &Delta) -> Delta
         ensures { result ≡ bit_xor self.now other.now }
     {

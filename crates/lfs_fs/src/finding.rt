@@ -14,9 +14,7 @@ use crate::outline_directory::OutlineDirectory;
 use crate::outline_entry::OutlineEntry;
 use crate::path::Path;
 
-/// The first directory that begins at a pair, the lesser block first. Takes no memory.
-///
-/// Source: own.
+/// The first directory that begins at a pair, the lesser block first.
 pub fn directory_at<'a>(
     directories: &'a [OutlineDirectory],
     pair: (u32, u32),
@@ -28,9 +26,7 @@ pub fn directory_at<'a>(
         .find(|directory| directory.begins_at(pair))
 }
 
-/// The entry under a name in the directory of a pair, the lesser block first. Takes no memory.
-///
-/// Source: own.
+/// The entry under a name in the directory of a pair, the lesser block first.
 pub fn entry_in<'a>(
     directories: &'a [OutlineDirectory],
     pair: (u32, u32),
@@ -66,7 +62,7 @@ impl Outline {
     ghost use Rattle.lfs_fs.specs.Tree.{entry_at};
     ghost use Rattle.lfs_fs.specs.Seen.{seen};
 
-    /// What stands at a path. Takes no memory.
+    /// What stands at a path.
     pub fn find(&self, path: &Path) -> Option<Found<'_>>
         ensures { option_map (seen self.now) result ≡ entry_at self.now path.now }
     {

@@ -4,8 +4,6 @@ use crate::outline_entry::OutlineEntry;
 use crate::thread_reading::ROOT;
 
 /// What stands at a path: the root, which has no entry, or an entry of a directory.
-///
-/// Source: own.
 #[derive(Clone, Copy, Drop)]
 pub enum Found<'a> {
     /// The root.
@@ -20,7 +18,7 @@ impl<'a> Found<'a> {
     ghost use Rattle.lfs_fs.specs.Entry.{target};
     ghost use Rattle.lfs_fs.specs.Seen.{seen};
 
-    /// The directory that it leads to, as a set of blocks: the lesser one first. Takes no memory.
+    /// The directory that it leads to, as a set of blocks: the lesser one first.
     pub fn target(&self) -> Option<(u32, u32)>
         ensures { (v : Volume) → result ≡ target (seen v self.now) }
     {

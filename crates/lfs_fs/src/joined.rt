@@ -57,7 +57,7 @@ impl Joined {
     ghost use Rattle.std.specs.Prelude.{◌≡◌, ◌++◌, [], Bool, IfOk, IfErr, OnOk, length};
     ghost use Rattle.std.specs.List.{AllByRecursion};
     ghost use Rattle.lfs_block.specs.Disk.{IsDisk};
-    ghost use Rattle.lfs_meta.specs.Whole.{IsWhole};
+    ghost use Rattle.lfs_meta.specs.Complete.{IsComplete};
     ghost use Rattle.lfs_fs.specs.Gathering.{EntriesCause, Joins, KeepsNext, as_directory, part_entries};
     ghost use Rattle.lfs_fs.specs.Reading.{reading_of};
     ghost use Rattle.lfs_fs.specs.Reread.{TakesOver};
@@ -76,11 +76,15 @@ impl Joined {
         }
     }
 
-    /// Puts a part behind those of its directory, which goes on behind it or ends with it. Takes memory.
+    /// Puts a part behind those of its directory, which goes on behind it or ends with it. One that is alone needs no list.
     fn join(&mut self, alloc: Global, part: OutlinePart, goes_on: bool) -> Result<(), AllocError>
         ensures joins { OnOk result (Joins goes_on part self.old self.new) }
         ensures state { self.new.state ≡ self.old.state }
     {
+        if !goes_on && self.parts.is_empty() {
+            let directory = OutlineDirectory::new(alloc, part, Vec::new(alloc))?;
+            return push(&mut self.directories, directory);
+        }
         push(&mut self.parts, part)?;
         if !goes_on {
             let parts = replace(&mut self.parts, Vec::new(alloc));
@@ -101,7 +105,7 @@ impl Joined {
     ) -> Result<(), MountFault>
         requires disk { IsDisk (B.disk blocks.now) }
         requires len { length used.old ≡ (B.disk blocks.now).count }
-        requires whole { AllByRecursion IsWhole part.1.entries }
+        requires complete { AllByRecursion IsComplete part.1.entries }
         requires rise { Rise (part_entries self.old.parts.items) }
         ensures kept { OnOk result (KeepsNext (reading_of (B.disk blocks.now)) limits used.old used.new part self.old self.new) }
         ensures refused { IfErr result (λ fault. EntriesCause fault (reading_of (B.disk blocks.now)) limits used.old

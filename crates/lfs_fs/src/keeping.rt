@@ -5,7 +5,7 @@ ghost use Rattle.lfs_block.specs.Disk.{IsDisk};
 ghost use Rattle.lfs_meta.specs.declared.kind.Kind.TheVariants.{Super};
 ghost use Rattle.lfs_meta.specs.BodyHeld.{body_held};
 ghost use Rattle.lfs_meta.specs.Fits.{BodyFits};
-ghost use Rattle.lfs_meta.specs.Whole.{IsWhole};
+ghost use Rattle.lfs_meta.specs.Complete.{IsComplete};
 ghost use Rattle.lfs_fs.specs.AsStored.{stored_body};
 ghost use Rattle.lfs_fs.specs.FrontCause.{IsOversized};
 ghost use Rattle.lfs_fs.specs.Gathering.{BodyCause, EntryCause, KeepsBody, KeepsEntry, IsWithin, stored_length};
@@ -35,7 +35,7 @@ fn length_of(body: &Body) -> usize
 
 /// Whether the name, the size and the attributes of an entry of a file or a directory are within the limits.
 fn is_within(entry: &Entry, limits: Limits) -> bool
-    requires whole { IsWhole entry.now }
+    requires complete { IsComplete entry.now }
     requires other { entry.now.kind ≢ Super }
     ensures { MatchBool result (IsWithin limits entry.now) (IsOversized limits entry.now) }
 {
@@ -92,7 +92,7 @@ pub(crate) fn kept_entry<B: Blocks>(
 ) -> Result<OutlineEntry, MountFault>
     requires disk { IsDisk (B.disk blocks.now) }
     requires len { length used.old ≡ (B.disk blocks.now).count }
-    requires whole { IsWhole entry }
+    requires complete { IsComplete entry }
     ensures kept { IfOk result (λ kept. KeepsEntry (reading_of (B.disk blocks.now)) limits used.old used.new entry kept) }
     ensures refused { IfErr result (λ fault. EntryCause fault (reading_of (B.disk blocks.now)) limits used.old entry) }
 {

@@ -3,7 +3,7 @@
 ghost use Rattle.std.specs.Prelude.{◌≡◌, ◌++◌, IfOk, IfErr, length};
 ghost use Rattle.std.specs.List.{AllByRecursion};
 ghost use Rattle.lfs_block.specs.Disk.{IsDisk};
-ghost use Rattle.lfs_meta.specs.Whole.{IsWhole};
+ghost use Rattle.lfs_meta.specs.Complete.{IsComplete};
 ghost use Rattle.lfs_fs.specs.Gathering.{EntriesCause, KeepsEntries, KeepsPart, part_entries};
 ghost use Rattle.lfs_fs.specs.Reading.{reading_of};
 ghost use Rattle.lfs_fs.specs.Sound.{Rise};
@@ -31,7 +31,7 @@ fn kept_entries<B: Blocks>(
 ) -> Result<Vec<OutlineEntry>, MountFault>
     requires disk { IsDisk (B.disk blocks.now) }
     requires len { length used.old ≡ (B.disk blocks.now).count }
-    requires whole { AllByRecursion IsWhole entries.items }
+    requires complete { AllByRecursion IsComplete entries.items }
     requires rise { Rise (part_entries before.now) }
     ensures kept { IfOk result (λ kept. KeepsEntries (reading_of (B.disk blocks.now)) limits used.old used.new entries.items kept.items) }
     ensures rise { IfOk result (λ kept. Rise (part_entries before.now ++ kept.items)) }
@@ -60,7 +60,7 @@ pub(crate) fn kept_part<B: Blocks>(
 ) -> Result<OutlinePart, MountFault>
     requires disk { IsDisk (B.disk blocks.now) }
     requires len { length used.old ≡ (B.disk blocks.now).count }
-    requires whole { AllByRecursion IsWhole part.1.entries }
+    requires complete { AllByRecursion IsComplete part.1.entries }
     requires rise { Rise (part_entries before.now) }
     ensures kept { IfOk result (λ kept. KeepsPart (reading_of (B.disk blocks.now)) limits used.old used.new part before.now kept) }
     ensures refused { IfErr result (λ fault. EntriesCause fault (reading_of (B.disk blocks.now)) limits used.old (part_entries before.now) part.1.entries) }

@@ -26,7 +26,7 @@ impl Model for KnownPart {
 impl KnownPart {
     ghost use Rattle.std.specs.Prelude.{◌≡◌, IsTrue};
 
-    /// Whether it stands at a pair. Takes no memory.
+    /// Whether it stands at a pair.
     pub(crate) fn stands_at(&self, pair: (u32, u32)) -> bool
         ensures { IsTrue result → self.now.part.pair ≡ pair }
     {

@@ -62,7 +62,7 @@ impl KnownParts {
     }
 
     /// Takes the part of a pair off, and those that come before it in the thread. `None` where it isn't one of the next few,
-    /// which stay then, or where a changed block is its own. Takes no memory.
+    /// which stay then, or where a changed block is its own.
     pub(crate) fn take(&mut self, pair: (u32, u32)) -> Option<KnownPart>
         ensures pair { IfSome result (λ known. known.part.pair ≡ pair) }
         ensures left { IfSome result (λ known. PartIsLeft self.old.changed.items known.part) }

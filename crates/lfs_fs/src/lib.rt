@@ -75,6 +75,7 @@ pub use row::Row;
 pub use row_body::RowBody;
 pub use row_path::follow;
 pub use rows::Rows;
+pub use superblock::VERSION;
 pub use thread_reading::{ROOT, next_pair};
 pub use used::mark_all;
 pub use used_blocks::UsedBlocks;

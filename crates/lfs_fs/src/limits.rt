@@ -9,8 +9,6 @@ pub const MOST_FILE: u32 = 2_147_483_647;
 /// Source: SPEC.md, "Metadata tags".
 pub const MOST_HELD: u32 = 1_022;
 /// The limits of a new image.
-///
-/// Source: own.
 pub const NEW_LIMITS: Limits = Limits {
     name: 255,
     file: MOST_FILE,

@@ -11,8 +11,6 @@ use std::alloc::Global;
 use std::marker::Model;
 
 /// What is known of an image that mounts: its outline, the places of what stands at each path, and its free blocks.
-///
-/// Source: own.
 #[derive(Drop)]
 pub struct Mounted {
     outline: Outline,
@@ -55,7 +53,7 @@ impl Mounted {
     ghost use Rattle.lfs_fs.specs.Placed.{ArePlaces, rows_of};
     ghost use Rattle.lfs_fs.specs.Unused.{unused};
 
-    /// What is known of an image, with one flag a block that says whether it is used. Takes no memory.
+    /// What is known of an image, with one flag a block that says whether it is used.
     pub(crate) fn new(
         outline: Outline,
         order: Vec<Place>,
@@ -75,42 +73,42 @@ impl Mounted {
         }
     }
 
-    /// The image's volume less the contents of its chains. Takes no memory.
+    /// The image's volume less the contents of its chains.
     pub fn outline(&self) -> &Outline
         ensures { result.now ≡ self.now.outline }
     {
         &self.outline
     }
 
-    /// The image's volume less the contents of its chains, without what else is known. Takes no memory.
+    /// The image's volume less the contents of its chains, without what else is known.
     pub fn into_outline(self) -> Outline
         ensures { result ≡ self.outline }
     {
         self.outline
     }
 
-    /// What stands at each path, in the order of paths: the root's row first. Takes no memory.
+    /// What stands at each path, in the order of paths: the root's row first.
     pub fn rows(&self) -> Rows<'_>
         ensures { rows_listed result ≡ self.now.rows }
     {
         Rows::new(&self.outline, &self.order)
     }
 
-    /// The pairs of the thread in order. Takes no memory.
+    /// The pairs of the thread in order.
     pub fn thread(&self) -> &[(u32, u32)]
         ensures { result.now ≡ map (λ p. p.pair) (thread_parts self.now.outline.directories) }
     {
         &self.thread
     }
 
-    /// What stands at a path. Takes no memory.
+    /// What stands at a path.
     pub fn find(&self, path: &Path) -> Option<Found<'_>>
         ensures { option_map (seen self.now.outline) result ≡ entry_at self.now.outline path.now }
     {
         self.outline.find(path)
     }
 
-    /// The number of free blocks. Takes no memory.
+    /// The number of free blocks.
     pub fn free_count(&self) -> u32
         ensures { result ≡ length self.now.free }
     {
@@ -125,7 +123,7 @@ impl Mounted {
         self.used.lowest_free(alloc, n)
     }
 
-    /// The number of directories, the root among them: of rows that show one. Takes no memory.
+    /// The number of directories, the root among them: of rows that show one.
     pub fn directories(&self) -> usize
         ensures outline { result ≡ length self.now.outline.directories }
         ensures rows { result ≡ count_by (λ row. leads row.entry) self.now.rows }
@@ -133,7 +131,7 @@ impl Mounted {
         self.outline.directory_count()
     }
 
-    /// The number of files: of entries that lead to no directory, and of rows that show one. Takes no memory.
+    /// The number of files: of entries that lead to no directory, and of rows that show one.
     pub fn files(&self) -> usize
         ensures outline { result ≡ files_of self.now.outline }
         ensures rows { result ≡ count_by (λ row. not (leads row.entry)) self.now.rows }
@@ -141,7 +139,7 @@ impl Mounted {
         self.order.len() - self.outline.directory_count()
     }
 
-    /// The greatest lengths of a name, a file and an attribute. Takes no memory.
+    /// The greatest lengths of a name, a file and an attribute.
     pub fn limits(&self) -> Limits
         ensures { result ≡ self.now.outline.limits }
     {

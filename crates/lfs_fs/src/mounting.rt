@@ -16,8 +16,6 @@ use std::alloc::Global;
 /// Judges an image: its outline, what stands at each path and its free blocks, or a cause for which it doesn't mount. Where
 /// several causes hold, the answer is one of them; where the superblock has one, that is, where there is none, or its version, its
 /// geometry or its limits aren't right, it is one of those. `Memory` says only that a growth was refused.
-///
-/// Source: own.
 pub fn mount<B: Blocks>(alloc: Global, blocks: &B) -> Result<Mounted, MountFault>
     ensures mounted { IfOk result (λ m. IsMountOf (B.disk blocks.now) m) }
     ensures refused { IfErr result (λ fault. HasCause (B.disk blocks.now) fault) }

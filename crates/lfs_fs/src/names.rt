@@ -4,7 +4,7 @@ ghost use Rattle.std.specs.Prelude.{◌≡◌};
 ghost use Rattle.lfs_fs.specs.NameOrder.{precedes};
 
 /// Whether a name comes before another: by the first byte in which they differ, and where one begins the other, the
-/// longer one first. Takes no memory.
+/// longer one first.
 pub fn precedes(left: &[u8], right: &[u8]) -> bool
     ensures { result ≡ precedes left.now right.now }
 {

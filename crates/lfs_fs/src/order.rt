@@ -30,8 +30,6 @@ fn start(alloc: Global, outline: &Outline) -> Result<Walk, AllocError>
 
 /// The places of an outline's entries, in the order of their paths: `MissingDirectory` where an entry leads to no
 /// directory, `BlockTwice` where a directory has two names, `Orphan` where one is not reached.
-///
-/// Source: own.
 pub(crate) fn order_of(alloc: Global, outline: &Outline) -> Result<Vec<Place>, MountFault>
     requires { IsWalkable outline.now }
     ensures listed { IfOk result (λ order. IsListed outline.now (rows_of outline.now order.items)) }

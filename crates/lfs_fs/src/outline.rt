@@ -10,8 +10,6 @@ use std::marker::Model;
 
 /// The file system of an image in memory: a volume less the contents of its chains, for which as many zeros stand. Its
 /// meaning is that volume. The root's attributes rise by kind, and fit into tags.
-///
-/// Source: own.
 #[derive(Drop)]
 pub struct Outline {
     /// The size of a block in bytes.
@@ -52,7 +50,7 @@ impl Outline {
     ghost use Rattle.lfs_fs.specs.Used.{Marks};
     ghost use Rattle.lfs_fs.specs.Uses.{uses};
 
-    /// The blocks that it uses. The caller owes a sound outline, no block of which has two uses.
+    /// The blocks that it uses.
     pub fn used_blocks(&self, alloc: Global) -> Result<UsedBlocks, AllocError>
         requires { IsSound self.now }
         ensures marks { IfOk result (λ used. Marks used (λ b. uses b self.now)) }
@@ -65,7 +63,7 @@ impl Outline {
         Ok(UsedBlocks::new(flags))
     }
 
-    /// The number of its directories. Takes no memory.
+    /// The number of its directories.
     pub(crate) fn directory_count(&self) -> usize
         ensures { result ≡ length self.now.directories }
     {

@@ -6,8 +6,6 @@ use std::alloc::{AllocError, Global};
 use std::marker::Model;
 
 /// The parts of a directory.
-///
-/// Source: own.
 #[derive(Drop)]
 pub struct OutlineParts {
     /// The first part.
@@ -18,8 +16,6 @@ pub struct OutlineParts {
 
 /// A first part and the parts that hard tails join to it. Its meaning is the directory of a volume. The parts stand in a box, so
 /// that eight bytes for each directory behind it move where one is put into the thread.
-///
-/// Source: own.
 #[derive(Drop)]
 pub struct OutlineDirectory {
     /// The parts.
@@ -54,7 +50,7 @@ impl OutlineDirectory {
         Ok(OutlineDirectory { parts })
     }
 
-    /// One of its parts. Takes no memory.
+    /// One of its parts.
     pub(crate) fn part(&self, index: usize) -> Option<&OutlinePart>
         ensures { option_map (λ p. p.now) result ≡ slice_get (parts self.now) index }
     {
@@ -65,7 +61,7 @@ impl OutlineDirectory {
         }
     }
 
-    /// The first of its entries that has a name. Takes no memory.
+    /// The first of its entries that has a name.
     pub(crate) fn named(&self, name: &[u8]) -> Option<&OutlineEntry>
         ensures { option_map (λ e. e.now) result ≡ find (is_named name.now) (entries self.now) }
     {
@@ -75,9 +71,7 @@ impl OutlineDirectory {
         }
     }
 
-    /// Whether its first pair has these blocks, the lesser one first. Takes no memory.
-    ///
-    /// Source: own.
+    /// Whether its first pair has these blocks, the lesser one first.
     pub fn begins_at(&self, pair: (u32, u32)) -> bool
         ensures { result ≡ begins_at pair self.now }
     {
@@ -85,14 +79,14 @@ impl OutlineDirectory {
         pair.0 == first && pair.1 == second
     }
 
-    /// The number of its parts. Takes no memory.
+    /// The number of its parts.
     pub(crate) fn len(&self) -> usize
         ensures { result ≡ length (parts self.now) }
     {
         self.parts.more.len() + 1
     }
 
-    /// The pair that entries name it by: the lesser block first. Takes no memory.
+    /// The pair that entries name it by: the lesser block first.
     pub(crate) fn key(&self) -> (u32, u32)
         ensures { result ≡ key self.now }
     {

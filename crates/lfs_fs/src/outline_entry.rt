@@ -9,8 +9,6 @@ use std::marker::Model;
 
 /// What stands under a name of a directory. Its meaning is the entry of a volume, with as many zeros as the contents of
 /// its chain have bytes. As it is stored its lengths and numbers fit into tags.
-///
-/// Source: own.
 #[derive(Drop)]
 pub struct OutlineEntry {
     /// The name.
@@ -43,7 +41,7 @@ impl OutlineEntry {
     ghost use Rattle.lfs_fs.specs.Entry.{is_named, target};
     ghost use Rattle.lfs_fs.specs.RowHeld.{row_body_held};
 
-    /// Where its contents are. Takes no memory.
+    /// Where its contents are.
     fn row_body(&self) -> RowBody<'_>
         ensures { row_body_held result ≡ self.now.body }
     {
@@ -57,7 +55,7 @@ impl OutlineEntry {
         }
     }
 
-    /// Its row, at a depth. Takes no memory.
+    /// Its row, at a depth.
     pub(crate) fn row(&self, depth: usize) -> Row<'_>
         ensures { result ≡ record { depth = depth; entry = self.now } }
     {
@@ -69,16 +67,14 @@ impl OutlineEntry {
         }
     }
 
-    /// Whether it has a name. Takes no memory.
-    ///
-    /// Source: own.
+    /// Whether it has a name.
     pub fn is_named(&self, name: &[u8]) -> bool
         ensures { result ≡ is_named name.now self.now }
     {
         name == self.name.as_slice()
     }
 
-    /// The directory that it leads to, as a set of blocks: the lesser one first. Takes no memory.
+    /// The directory that it leads to, as a set of blocks: the lesser one first.
     pub fn target(&self) -> Option<(u32, u32)>
         ensures { result ≡ target self.now }
     {

@@ -10,8 +10,6 @@ use crate::outline_entry::OutlineEntry;
 use std::marker::Model;
 
 /// What a pair holds, superblock and tail aside. Its meaning is the part of a volume.
-///
-/// Source: own.
 #[derive(Drop)]
 pub struct OutlinePart {
     /// The pair.
@@ -40,35 +38,35 @@ impl OutlinePart {
     ghost use Rattle.lfs_fs.specs.Pair.{unordered};
     ghost use Rattle.lfs_fs.specs.Entry.{is_named};
 
-    /// One of its entries. Takes no memory.
+    /// One of its entries.
     pub(crate) fn entry(&self, index: usize) -> Option<&OutlineEntry>
         ensures { option_map (λ e. e.now) result ≡ slice_get self.now.entries index }
     {
         self.entries.get(index)
     }
 
-    /// The first of its entries that has a name. Takes no memory.
+    /// The first of its entries that has a name.
     pub(crate) fn named(&self, name: &[u8]) -> Option<&OutlineEntry>
         ensures { option_map (λ e. e.now) result ≡ find (is_named name.now) self.now.entries }
     {
         self.entries.iter().find(|entry| entry.is_named(name))
     }
 
-    /// The number of its entries. Takes no memory.
+    /// The number of its entries.
     pub(crate) fn len(&self) -> usize
         ensures { result ≡ length self.now.entries }
     {
         self.entries.len()
     }
 
-    /// Its pair. Takes no memory.
+    /// Its pair.
     pub(crate) fn pair(&self) -> (u32, u32)
         ensures { result ≡ self.now.pair }
     {
         self.pair
     }
 
-    /// Its pair as a set: the lesser block first. Takes no memory.
+    /// Its pair as a set: the lesser block first.
     pub(crate) fn key(&self) -> (u32, u32)
         ensures { result ≡ unordered self.now.pair }
     {

@@ -11,8 +11,6 @@ use lfs_block::{Blocks, MountFault};
 use std::alloc::{AllocError, Global};
 
 /// Reads the outline of an image that is known to have one, so that nothing but memory can be wanting. There is no other.
-///
-/// Source: own.
 pub fn outline_of<B: Blocks>(alloc: Global, blocks: &B) -> Result<Outline, AllocError>
     requires outline { HasOutline (B.disk blocks.now) }
     ensures read { IfOk result (λ outline. IsOutlineOf (B.disk blocks.now) outline) }

@@ -22,14 +22,14 @@ impl Model for Path {
 impl Path {
     ghost use Rattle.std.specs.Prelude.{◌≡◌, map};
 
-    /// The path of these names. Takes no memory.
+    /// The path of these names.
     pub fn new(names: Vec<Vec<u8>>) -> Path
         ensures { result ≡ map (λ n. n.items) names.items }
     {
         Path { names }
     }
 
-    /// Its names, from the root on. Takes no memory.
+    /// Its names, from the root on.
     pub fn names(&self) -> &[Vec<u8>]
         ensures { map (λ n. n.items) result.now ≡ self.now }
     {

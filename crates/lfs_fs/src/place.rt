@@ -3,8 +3,6 @@
 /// Where an entry stands in an outline: in which directory, in which of its parts, and where in that part, each counted
 /// from 0. The depth is the number of names in its path. The root, which has no entry, is the place of depth 0. An image
 /// has at most 65,536 blocks, two to a part, and each entry of a part takes a tag of four bytes, so 16 bits hold each number.
-///
-/// Source: own.
 #[derive(Clone, Copy, Drop)]
 pub struct Place {
     /// The number of names in the path.

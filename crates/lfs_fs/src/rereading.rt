@@ -24,7 +24,7 @@ use crate::thread_reading::next_pair;
 use crate::used::mark_all;
 use lfs_block::{Blocks, MountFault};
 use lfs_file::chains_stay_on_their_blocks;
-use lfs_meta::{held_parts_are_whole, parts_depend_on_their_blocks, read_pair};
+use lfs_meta::{held_parts_are_complete, parts_depend_on_their_blocks, read_pair};
 use std::alloc::Global;
 
 /// Takes the part of a pair over where it is known and no changed block is its own, or reads it, and answers the pair that comes next.
@@ -47,7 +47,7 @@ fn keep_pair<B: Blocks>(
     ensures kept { IfOk result (λ next. KeepsPair (reading_of (B.disk blocks.now)) limits used.old used.new pair next joined.old joined.new) }
     ensures known { OnOk result ((attributes : Attributes) × AreKnown (reading_of (B.disk blocks.now)) limits attributes known.new.changed.items known.new.parts.items) }
 {
-    held_parts_are_whole();
+    held_parts_are_complete();
     if let Some(part) = known.take(pair) {
         let next = next_pair(part.tail);
         joined.take_over(alloc, used, part)?;
@@ -137,8 +137,6 @@ fn regather<B: Blocks>(
 
 /// The outline of an image that differs in these blocks alone from one of this outline: parts of which no such block is are taken over as
 /// they are, the others read. `None` where it isn't found this way, which says nothing of the image: `mount` does.
-///
-/// Source: own.
 pub fn reread<B: Blocks>(
     alloc: Global,
     blocks: &B,

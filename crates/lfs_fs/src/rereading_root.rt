@@ -15,7 +15,7 @@ use crate::superblock::{judged, take_first};
 use crate::thread_reading::{ROOT, next_pair, read_root};
 use crate::used::mark_all;
 use lfs_block::{Blocks, MountFault};
-use lfs_meta::{Attribute, held_parts_are_whole};
+use lfs_meta::{Attribute, held_parts_are_complete};
 use std::alloc::Global;
 
 /// What is kept of the thread so far, from the root's first part on.
@@ -78,7 +78,7 @@ pub(crate) fn start<B: Blocks>(
     ensures rise { IfOk result (λ s. RiseFrom 0 s.attributes.items) }
     ensures known { AreKnown (reading_of (B.disk blocks.now)) limits attributes.items known.new.changed.items known.new.parts.items }
 {
-    held_parts_are_whole();
+    held_parts_are_complete();
     let Some(part) = known.take(ROOT) else {
         return read_start(alloc, blocks, limits, used);
     };

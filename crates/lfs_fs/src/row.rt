@@ -7,8 +7,6 @@ use std::marker::Model;
 /// What stands at a path, less the path. Its path is the name behind as many names of the row before it as the depth less
 /// one; the root's row has depth 0 and no name. Its meaning is its depth with an entry, in which as many zeros as the
 /// contents of a chain have bytes stand for them.
-///
-/// Source: own.
 #[derive(Drop)]
 pub struct Row<'a> {
     /// The number of names in its path.
@@ -36,7 +34,7 @@ impl<'a> Row<'a> {
     ghost use Rattle.std.specs.Prelude.{◌≡◌};
     ghost use Rattle.lfs_fs.specs.Entry.{leads};
 
-    /// Whether it is a directory. Takes no memory.
+    /// Whether it is a directory.
     pub fn is_dir(&self) -> bool
         ensures { result ≡ leads self.now.entry }
     {

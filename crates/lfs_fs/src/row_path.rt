@@ -7,8 +7,6 @@ use std::alloc::AllocError;
 
 /// Turns the path of a row into that of the next one, which has so many names, this one last; where it has none, it is the root's. A
 /// name is kept in any form: as bytes, or as a text. Want of memory is the only refusal.
-///
-/// Source: own.
 pub fn follow<N: Drop>(path: &mut Vec<N>, depth: usize, name: N) -> Result<(), AllocError>
     ensures { OnOk result (path.new.items ≡ path_after path.old.items depth name) }
 {

@@ -14,7 +14,6 @@ use crate::thread_reading::ROOT;
 use std::marker::Model;
 
 /// The rows of an outline in the order of their paths, the root's first. It stands for the list of those that are left.
-/// Takes no memory.
 #[derive(Drop)]
 pub struct Rows<'a> {
     outline: &'a Outline,

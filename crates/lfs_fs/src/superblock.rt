@@ -17,7 +17,7 @@ const NAME: [u8; 8] = *b"littlefs";
 /// The length of its struct, in bytes.
 const LEN: usize = 24;
 /// Version 2.0 of the disk format.
-const VERSION: u32 = 0x0002_0000;
+pub const VERSION: u32 = 0x0002_0000;
 
 /// The struct of an entry, where the entry is a superblock.
 fn struct_of(entry: &Entry) -> Option<&[u8]>

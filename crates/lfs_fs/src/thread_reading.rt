@@ -22,7 +22,7 @@ use std::alloc::Global;
 /// Source: SPEC.md, "0x0ff superblock".
 pub const ROOT: (u32, u32) = (0, 1);
 
-/// The pair that a tail names; `None` where the thread ends. Takes no memory.
+/// The pair that a tail names; `None` where the thread ends.
 ///
 /// Source: SPEC.md, "0x6xx tail".
 pub fn next_pair(tail: Tail) -> Option<(u32, u32)>

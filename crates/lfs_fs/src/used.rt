@@ -21,7 +21,7 @@ fn mark(used: &mut [bool], block: u32) -> Result<(), MountFault>
     Ok(())
 }
 
-/// Takes the mark off a block. The caller owes that it is marked.
+/// Takes the mark off a block.
 pub(crate) fn unmark(used: &mut [bool], block: u32)
     requires { AreMarked used.old (block ∷ []) }
     ensures { AddsBlocks used.new used.old (block ∷ []) }
@@ -30,9 +30,7 @@ pub(crate) fn unmark(used: &mut [bool], block: u32)
 }
 
 /// Marks blocks: `BlockRange` where there isn't one of them, `BlockTwice` where one is marked or stands twice. After a
-/// refusal the table is of no use. Takes no memory.
-///
-/// Source: own.
+/// refusal the table is of no use.
 pub fn mark_all(used: &mut [bool], blocks: &[u32]) -> Result<(), MountFault>
     ensures marked { OnOk result (AddsBlocks used.old used.new blocks.now) }
     ensures refused { IfErr result (λ fault. AreTaken fault used.old blocks.now) }

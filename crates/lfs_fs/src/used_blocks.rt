@@ -10,8 +10,6 @@ use std::marker::Model;
 
 /// The blocks of an image that are used. Its meaning is a table with one flag a block. It keeps how many aren't used, and a block
 /// below which all are.
-///
-/// Source: own.
 #[derive(Drop)]
 pub struct UsedBlocks {
     flags: Vec<bool>,
@@ -30,7 +28,7 @@ impl Model for UsedBlocks {
     ghost invariant = { λ u. IsTallied u.flags.items u.free u.lowest };
 }
 
-/// The `n` least blocks whose flags aren't set. The caller owes that all below `lowest` are set.
+/// The `n` least blocks whose flags aren't set.
 fn lowest_unused(
     alloc: Global,
     used: &[bool],
@@ -54,7 +52,7 @@ fn lowest_unused(
     Ok(found)
 }
 
-/// The first block from `lowest` on whose flag isn't set, or the number of flags. The caller owes that all below `lowest` are set.
+/// The first block from `lowest` on whose flag isn't set, or the number of flags.
 fn first_unused(used: &[bool], lowest: usize) -> usize
     requires { AreMarkedBelow lowest used.now }
     ensures { AreMarkedBelow result used.now }
@@ -72,7 +70,7 @@ impl UsedBlocks {
     ghost use Rattle.lfs_fs.specs.Unused.{unused};
     ghost use Rattle.lfs_fs.specs.Used.{AddsBlocks, AreMarked, CanBeMarked};
 
-    /// The table with these flags, one a block. Takes no memory.
+    /// The table with these flags, one a block.
     pub(crate) fn new(flags: Vec<bool>) -> UsedBlocks
         requires { length flags.items < 2 ^ 32 }
         ensures { result ≡ flags.items }
@@ -86,22 +84,21 @@ impl UsedBlocks {
         }
     }
 
-    /// The flags, one a block: whether it is used. Takes no memory.
+    /// The flags, one a block: whether it is used.
     pub fn flags(&self) -> &[bool]
         ensures { result.now ≡ self.now }
     {
         &self.flags
     }
 
-    /// The number of blocks that aren't used. Takes no memory.
+    /// The number of blocks that aren't used.
     pub fn free_count(&self) -> u32
         ensures { result ≡ length (unused self.now) }
     {
         self.free
     }
 
-    /// The `n` least blocks that aren't used, rising. The caller owes that there are so many. `None` says only that a growth was
-    /// refused.
+    /// The `n` least blocks that aren't used, rising. `None` says only that a growth was refused.
     pub fn lowest_free(&self, alloc: Global, n: u32) -> Option<Vec<u32>>
         requires { n ≤ length (unused self.now) }
         ensures { IfSome result (λ blocks. blocks.items ≡ take n (unused self.now)) }
@@ -109,7 +106,7 @@ impl UsedBlocks {
         lowest_unused(alloc, &self.flags, self.lowest, n).ok()
     }
 
-    /// Marks blocks. The caller owes that each is one of the table's and isn't used, and that none stands twice. Takes no memory.
+    /// Marks blocks.
     pub fn take(&mut self, blocks: &[u32])
         requires { CanBeMarked self.old blocks.now }
         ensures { AddsBlocks self.old self.new blocks.now }
@@ -123,7 +120,7 @@ impl UsedBlocks {
         }
     }
 
-    /// Takes the mark off a block. The caller owes that it is used. Takes no memory.
+    /// Takes the mark off a block.
     fn give_one(&mut self, block: u32)
         requires { AreMarked self.old (block ∷ []) }
         ensures { AddsBlocks self.new self.old (block ∷ []) }
@@ -133,7 +130,7 @@ impl UsedBlocks {
         self.lowest = self.lowest.min(block as usize);
     }
 
-    /// Takes the marks off blocks. The caller owes that each is used, and that none stands twice. Takes no memory.
+    /// Takes the marks off blocks.
     pub fn give_back(&mut self, blocks: &[u32])
         requires { AreMarked self.old blocks.now }
         ensures { AddsBlocks self.new self.old blocks.now }

@@ -21,7 +21,7 @@ fn mark_file(used: &mut [bool], body: &OutlineBody) -> Result<(), MountFault>
 }
 
 /// Marks the blocks of the files among entries: `BlockRange` where there isn't one of them, `BlockTwice` where one is marked.
-/// After a refusal the table is of no use. Takes no memory.
+/// After a refusal the table is of no use.
 pub(crate) fn mark_files(used: &mut [bool], entries: &[OutlineEntry]) -> Result<(), MountFault>
     ensures { OnOk result (MarksBeside used.old used.new (λ b. sum_by (entry_uses b) entries.now)) }
 {

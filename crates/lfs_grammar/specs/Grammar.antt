@@ -111,6 +111,14 @@ one = flag (codes "one")
 abbrev pub quiet : Rule
 quiet = flag (codes "quiet")
 
+-- it is printed as JSON
+abbrev pub json : Rule
+json = flag (codes "json")
+
+-- the digests of contents are printed too
+abbrev pub digests : Rule
+digests = flag (codes "sha256")
+
 -- an option without a value that has a letter too
 abbrev pub flag_or : Text → ℕ → Rule
 flag_or id letter = record (flag id) { short = Some letter }
@@ -171,6 +179,8 @@ rule_at argument.New = is_new
 rule_at argument.Sum = sum
 rule_at argument.One = one
 rule_at argument.Quiet = quiet
+rule_at argument.Json = json
+rule_at argument.Sha256 = digests
 rule_at argument.Recursive = recursive
 rule_at argument.Parents = parents
 rule_at argument.Device = device
@@ -288,12 +298,12 @@ commands =
     ∷ (command (codes "find") (word (codes "flash") ∷ [])).top
     ∷ asking (codes "extract") (word (codes "dir") ∷ path_or_root ∷ [])
     ∷ asking (codes "salvage") (word (codes "dir") ∷ [])
-    ∷ asking (codes "check") []
-    ∷ asking (codes "ls") (path_or_root ∷ [])
-    ∷ asking (codes "blocks") (sum ∷ [])
+    ∷ asking (codes "check") (json ∷ [])
+    ∷ asking (codes "ls") (path_or_root ∷ digests ∷ json ∷ [])
+    ∷ asking (codes "blocks") (sum ∷ json ∷ [])
     ∷ asking (codes "cat") (word (codes "path") ∷ [])
-    ∷ asking (codes "diff") (word (codes "other") ∷ quiet ∷ [])
-    ∷ reading (codes "log") []
+    ∷ asking (codes "diff") (word (codes "other") ∷ quiet ∷ json ∷ [])
+    ∷ reading (codes "log") (json ∷ [])
     ∷ changing (codes "mkdir") (word (codes "path") ∷ parents ∷ [])
     ∷ changing (codes "put") (word (codes "path") ∷ contents ∷ parents ∷ [])
     ∷ changing (codes "rm") (word (codes "path") ∷ recursive ∷ [])

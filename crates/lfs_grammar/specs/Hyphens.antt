@@ -42,7 +42,7 @@ names_view_option word = begins_with word (codes "--device") || begins_with word
 
 -- an option that says how an answer is told, by its long name
 abbrev pub names_answer_option : Text → Bool
-names_answer_option word = begins_with word (codes "--sum") || begins_with word (codes "--quiet")
+names_answer_option word = begins_with word (codes "--sum") || begins_with word (codes "--quiet") || begins_with word (codes "--json") || begins_with word (codes "--sha256")
 
 -- an option of a question, by its long name
 abbrev pub names_asking_option : Text → Bool

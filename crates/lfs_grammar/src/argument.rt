@@ -45,6 +45,10 @@ pub(crate) enum Argument {
     One,
     /// That only the status says whether two images differ.
     Quiet,
+    /// That it is printed as JSON.
+    Json,
+    /// That the digests of contents are printed too.
+    Sha256,
     /// That all goes that is below a directory too.
     Recursive,
     /// That parents are made that lack.
@@ -254,6 +258,20 @@ static QUIET: ArgumentRow = ArgumentRow {
     id: "quiet",
     form: Form::Flag,
     help: "Print nothing; the status says whether the images differ",
+};
+
+/// That the digests of contents are printed too.
+static SHA256: ArgumentRow = ArgumentRow {
+    id: "sha256",
+    form: Form::Flag,
+    help: "Print the SHA-256 of each file's contents too",
+};
+
+/// That it is printed as JSON.
+static JSON: ArgumentRow = ArgumentRow {
+    id: "json",
+    form: Form::Flag,
+    help: "Print an object of JSON a line",
 };
 
 /// That all goes that is below a directory too.
@@ -467,6 +485,8 @@ fn row_of(argument: Argument) -> &'static ArgumentRow
         Argument::Sum => &SUM,
         Argument::One => &ONE,
         Argument::Quiet => &QUIET,
+        Argument::Json => &JSON,
+        Argument::Sha256 => &SHA256,
         Argument::Recursive => &RECURSIVE,
         Argument::Parents => &PARENTS,
         Argument::Device => &DEVICE,

@@ -10,13 +10,15 @@ use clap::Command;
 use std::alloc::{AllocError, Global};
 
 /// The program's version.
-const VERSION: &str = "0.1.0";
+const VERSION: &str = "0.2.0";
 
-/// What the statuses mean.
+/// What the statuses mean, and the word that stands in front of a command.
 const STATUSES: &str =
     "Status: 0 done; 1 the change is refused, or images differ; 2 the command line
 is refused; 3 the image or its journal is refused; 4 out of memory, or a file
-is not read or written.";
+is not read or written.
+
+With --json in front of the command all is told as JSON, an object a line.";
 
 /// A command of the program.
 struct CommandRow {
@@ -28,24 +30,16 @@ struct CommandRow {
 }
 
 /// How `format` is used.
-///
-/// Source: own.
 pub const FORMAT_USAGE: &str = "lfsed format [OPTIONS] <--count <N>|--size <BYTES>> <IMAGE>";
 
 /// How `pack` is used.
-///
-/// Source: own.
 pub const PACK_USAGE: &str =
     "lfsed pack [OPTIONS] <--count <N>|--size <BYTES>|--least> <IMAGE> <DIR>";
 
 /// How `repack` is used.
-///
-/// Source: own.
 pub const REPACK_USAGE: &str = "lfsed repack [OPTIONS] <IMAGE> <SOURCE>";
 
 /// How `grow` is used.
-///
-/// Source: own.
 pub const GROW_USAGE: &str = "lfsed grow [OPTIONS] <IMAGE> <COUNT|--size <BYTES>>";
 
 /// The program's commands, in the order of its help. Each but the last takes the block size and the image's file name.
@@ -143,6 +137,7 @@ static COMMANDS: [CommandRow; 25] = [
         arguments: &[
             Argument::Block,
             Argument::Image,
+            Argument::Json,
             Argument::Device,
             Argument::Offset,
             Argument::Older,
@@ -156,6 +151,8 @@ static COMMANDS: [CommandRow; 25] = [
             Argument::Block,
             Argument::Image,
             Argument::ListedPath,
+            Argument::Sha256,
+            Argument::Json,
             Argument::Device,
             Argument::Offset,
             Argument::Older,
@@ -169,6 +166,7 @@ static COMMANDS: [CommandRow; 25] = [
             Argument::Block,
             Argument::Image,
             Argument::Sum,
+            Argument::Json,
             Argument::Device,
             Argument::Offset,
             Argument::Older,
@@ -196,6 +194,7 @@ static COMMANDS: [CommandRow; 25] = [
             Argument::Image,
             Argument::Other,
             Argument::Quiet,
+            Argument::Json,
             Argument::Device,
             Argument::Offset,
             Argument::Older,
@@ -205,7 +204,12 @@ static COMMANDS: [CommandRow; 25] = [
         name: "log",
         about: "List the changes that the journal keeps, and what each of them changed",
         usage: None,
-        arguments: &[Argument::Block, Argument::Image, Argument::Older],
+        arguments: &[
+            Argument::Block,
+            Argument::Image,
+            Argument::Json,
+            Argument::Older,
+        ],
     },
     CommandRow {
         name: "mkdir",
@@ -392,8 +396,6 @@ fn with_commands<'a>(
 }
 
 /// The program's command line: its commands, each with what it takes.
-///
-/// Source: own.
 pub fn command_line<'a>(alloc: Global) -> Result<Command<'a>, AllocError>
     ensures grammar { IfOk result (λ made. app_of made ≡ grammar) }
 {

@@ -99,7 +99,10 @@ fn names_view_option(word: &str) -> bool
 fn names_answer_option(word: &str) -> bool
     ensures { result ≡ names_answer_option word.now }
 {
-    word.starts_with("--sum") || word.starts_with("--quiet")
+    word.starts_with("--sum")
+        || word.starts_with("--quiet")
+        || word.starts_with("--json")
+        || word.starts_with("--sha256")
 }
 
 /// Whether a word is an option, or asks for help.
@@ -132,8 +135,6 @@ fn is_stray(word: &str) -> bool
 
 /// The words with `--` before the first of them that begins with a hyphen and is no option: that word and those behind
 /// it are no options then.
-///
-/// Source: own.
 pub fn dashed<'a, W: AsStr>(alloc: Global, words: &'a [W]) -> Result<Vec<&'a str>, AllocError>
     ensures { IfOk result (λ read. map (λ word. word.now) read.items ≡ dashed (map W.text words.now)) }
 {
@@ -172,9 +173,7 @@ fn are_plain(options: &ArgMatches<'_>) -> bool
         && is_plain(options, "script")
 }
 
-/// Whether no file or folder of the host is named by a word that begins with a hyphen. Takes no memory.
-///
-/// Source: own.
+/// Whether no file or folder of the host is named by a word that begins with a hyphen.
 pub fn names_files_plainly(matches: &ArgMatches<'_>) -> bool
     ensures { result ≡ names_files_plainly (subcommand_rows_of matches.now) }
 {

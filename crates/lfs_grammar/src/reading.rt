@@ -10,8 +10,6 @@ use std::alloc::Global;
 use std::convert::AsStr;
 
 /// What the grammar of the command line matches of the words, the program's name first among them.
-///
-/// Source: own.
 pub fn matched<'a, W: AsStr>(alloc: Global, words: &'a [W]) -> Result<ArgMatches<'a>, Error>
     ensures taken { IfOk result (λ matches. IsMatched (map W.text words.now) matches) }
     ensures refused { IfErr result (λ error. HasKind (fault_of grammar (map W.text words.now)) error) }

@@ -6,7 +6,7 @@ use Rattle.std.proofs.lemmas.List.{reverse-append, reverse-reverse}
 use Rattle.lfs_block.specs.Change.{Change}
 use Rattle.lfs_block.specs.Disk.{Disk, put, resized}
 use Rattle.lfs_block.specs.Patch.{ChangeSet, applied, flipped, reverted, put_all}
-use Rattle.lfs_book.specs.Book.{IsBook, IsBookOf, IsPatchOf}
+use Rattle.lfs_journal.specs.Book.{IsBook, IsBookOf, IsPatchOf}
 use Rattle.lfs_history.specs.History.{History, IsHistory, IsHistoryAt, GoesBack, GoesForward}
 use Rattle.lfs_history.specs.Opening.{journal_of}
 

@@ -9,8 +9,8 @@ use Rattle.lfs_block.specs.Disk.{Disk}
 use Rattle.lfs_block.specs.Patch.{ChangeSet}
 use Rattle.lfs_fs.specs.Stored.{HeldAreHeldByLinks}
 use Rattle.lfs_fs.specs.Reading.{reading_of}
-use Rattle.lfs_book.specs.Book.{bytes_in, journal_bytes, patch_bytes, respelling}
-use Rattle.lfs_book.proofs.Lengths.{bytes_len, patch_len, respelled}
+use Rattle.lfs_journal.specs.Book.{bytes_in, journal_bytes, patch_bytes, respelling}
+use Rattle.lfs_journal.proofs.Lengths.{bytes_len, patch_len, respelled}
 use Rattle.lfs_command.specs.Command.{Asked}
 use Rattle.lfs_command.specs.Need.{need}
 use Rattle.lfs_command.specs.Planned.{Plans}

@@ -7,7 +7,7 @@ use Rattle.std.proofs.lemmas.Bool.{cases_lt}
 use Rattle.std.proofs.lemmas.List.{reverse-append, length-reverse, take-append-drop, take_at, take_all, drop-append-le, length_push}
 use Rattle.lfs_block.specs.Disk.{Disk}
 use Rattle.lfs_block.specs.Patch.{ChangeSet, reverted}
-use Rattle.lfs_book.specs.Book.{most_changes}
+use Rattle.lfs_journal.specs.Book.{most_changes}
 use Rattle.lfs_history.specs.History.{History, IsHistory, IsMounted, past_of, GoesBack}
 use Rattle.lfs_history.specs.Moves.{Pushes, kept_images, kept_changes, dropped, but_one}
 use Rattle.lfs_history.specs.Taking.{HasPlace}
@@ -22,7 +22,7 @@ last_turned n ps =
     let turned : reverse ps ≡ reverse (drop k ps) ++ reverse (take k ps) = ap reverse (sym (take-append-drop k ps)) ∙ split in
     let left = length-drop k ps in
     let round = length-reverse (drop k ps) in
-    let whole = length-reverse ps in
+    let complete = length-reverse ps in
     elim (cases_lt n (length ps)) [
       | inl less ↦ sym (ap (take n) turned ∙ take_at (reverse (drop k ps)) (reverse (take k ps)) n (omega arith))
       | inr most ↦

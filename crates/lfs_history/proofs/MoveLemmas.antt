@@ -7,7 +7,7 @@ use Rattle.lfs_block.specs.Disk.{Disk, IsDisk}
 use Rattle.lfs_block.specs.Patch.{ChangeSet, IsGrowth, AgreesOld, AgreesNew, applied, reverted}
 use Rattle.lfs_block.specs.PatchLaws.{AppliedIsDisk, AppliedAgrees, AppliedRevertsBack, RevertedIsDisk, RevertedAgrees}
 use Rattle.lfs_block.specs.PatchLaws.{RevertedAppliesAgain}
-use Rattle.lfs_book.specs.Book.{most_changes}
+use Rattle.lfs_journal.specs.Book.{most_changes}
 use Rattle.lfs_command.specs.Command.{Asked}
 use Rattle.lfs_law.specs.Laws.{CutsFollow, CleansFollow}
 use Rattle.lfs_command.specs.Planned.{Plans}

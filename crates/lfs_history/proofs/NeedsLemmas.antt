@@ -6,8 +6,8 @@ use Rattle.lfs_block.specs.Patch.{ChangeSet, applied}
 use Rattle.lfs_joint.specs.Joined.{together}
 use Rattle.lfs_joint.specs.JointLaws.{TogetherIsShort, named_by}
 use Rattle.lfs_fs.specs.Stored.{HeldAreHeldByLinks}
-use Rattle.lfs_book.specs.Book.{patch_bytes}
-use Rattle.lfs_book.proofs.Lengths.{patch_len}
+use Rattle.lfs_journal.specs.Book.{patch_bytes}
+use Rattle.lfs_journal.proofs.Lengths.{patch_len}
 use Rattle.lfs_command.specs.Command.{Asked}
 use Rattle.lfs_law.specs.Laws.{FewPartsChange}
 use Rattle.lfs_law.specs.Written.{HeldAreClean}

@@ -9,8 +9,8 @@ use Rattle.lfs_block.specs.declared.mount_fault.MountFault.TheVariants.{Memory}
 use Rattle.lfs_fs.specs.Cause.{HasCause, IsOfFormat}
 use Rattle.lfs_fs.specs.Mounts.{MountedHaveNoCause}
 use Rattle.lfs_fs.specs.Tree.{tree}
-use Rattle.lfs_book.specs.Book.{Book, Spells, journal_bytes}
-use Rattle.lfs_book.specs.Laws.{BooksAreReadOnce}
+use Rattle.lfs_journal.specs.Book.{Book, Spells, journal_bytes}
+use Rattle.lfs_journal.specs.Laws.{BooksAreReadOnce}
 use Rattle.lfs_history.specs.declared.open_fault.OpenFault.{OpenFault}
 use Rattle.lfs_history.specs.declared.open_fault.OpenFault.TheVariants.{Mount, JournalFormat, JournalMismatch, JournalImage}
 use Rattle.lfs_history.specs.History.{History, IsHistory, IsMounted, GoesBack, GoesForward, history, past_of, future_of}

@@ -3,8 +3,8 @@ use Rattle.std.specs.Prelude.{ℕ}
 use Rattle.lfs_block.specs.Faults.{mount_fault_number}
 use Rattle.lfs_block.specs.declared.mount_fault.MountFault.TheVariants.{Memory}
 use Rattle.lfs_command.specs.Faults.{refusal_number}
-use Rattle.lfs_book.specs.declared.journal_fault.JournalFault.{JournalFault}
-use Rattle.lfs_book.specs.declared.journal_fault.JournalFault.TheVariants.{JournalFormat as Unspelled, Memory as Unread}
+use Rattle.lfs_journal.specs.declared.journal_fault.JournalFault.{JournalFault}
+use Rattle.lfs_journal.specs.declared.journal_fault.JournalFault.TheVariants.{JournalFormat as Unspelled, Memory as Unread}
 use Rattle.lfs_history.specs.declared.open_fault.OpenFault.{OpenFault}
 use Rattle.lfs_history.specs.declared.open_fault.OpenFault.TheVariants.{Mount, JournalFormat, JournalMismatch, JournalImage}
 use Rattle.lfs_history.specs.declared.step_fault.StepFault.{StepFault}

@@ -2,7 +2,7 @@
 use Rattle.std.specs.Prelude.{◌≡◌, ℕ, ◌+◌, ◌*◌, ◌≤◌, List, length, Option}
 use Rattle.lfs_block.specs.Disk.{Disk}
 use Rattle.lfs_block.specs.declared.mount_fault.MountFault.TheVariants.{Memory}
-use Rattle.lfs_book.specs.Book.{IsBook, bytes_in, journal_bytes, respelling}
+use Rattle.lfs_journal.specs.Book.{IsBook, bytes_in, journal_bytes, respelling}
 use Rattle.lfs_command.specs.Command.{Asked}
 use Rattle.lfs_command.specs.Need.{need}
 use Rattle.lfs_history.specs.declared.open_fault.OpenFault.{OpenFault}

@@ -1,6 +1,6 @@
 -- Whether there is room in a history for a change more (own).
 use Rattle.std.specs.Prelude.{ℕ, ◌<◌, ◌≤◌, Option, Some, None, length}
-use Rattle.lfs_book.specs.Book.{most_changes}
+use Rattle.lfs_journal.specs.Book.{most_changes}
 use Rattle.lfs_history.specs.History.{History}
 
 -- how many images of the past may be kept: from 1 to 1,000, or all

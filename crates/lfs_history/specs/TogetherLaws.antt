@@ -10,7 +10,7 @@ use Rattle.lfs_fs.specs.Tree.{Node}
 use Rattle.lfs_fs.specs.Reading.{reading_of}
 use Rattle.lfs_fs.specs.Holds.{Holds}
 use Rattle.lfs_fs.specs.Mounts.{Mounts}
-use Rattle.lfs_book.specs.Book.{bytes_in, journal_bytes, respelling}
+use Rattle.lfs_journal.specs.Book.{bytes_in, journal_bytes, respelling}
 use Rattle.lfs_command.specs.Command.{Asked}
 use Rattle.lfs_history.specs.History.{History, IsHistory}
 use Rattle.lfs_history.specs.Moves.{kept_changes, kept_images, but_one}

@@ -18,9 +18,7 @@ fn bytes_of<'a>(source: &'a Source<'a>, read: &'a [u8]) -> &'a [u8]
     }
 }
 
-/// A step with its bytes in hand: those that were said with it, or those that were read of its source. Takes no memory.
-///
-/// Source: own.
+/// A step with its bytes in hand: those that were said with it, or those that were read of its source.
 pub fn filled<'a>(step: &'a Move<'a, Source<'a>>, read: &'a [u8]) -> Move<'a>
     ensures { step_of result ≡ step_by (bytes_given read.now) step.now }
 {

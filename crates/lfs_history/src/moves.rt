@@ -4,8 +4,6 @@ use lfs_command::{Asked, Command};
 
 /// A move of a session: a step on its history, whose command has its contents or its value in hand, or says where they come from (`B`).
 /// Commands that are carried out together have theirs in hand.
-///
-/// Source: own.
 #[derive(Clone, Copy, Drop)]
 pub enum Move<'a, B = &'a [u8]> {
     /// Carries a command out.

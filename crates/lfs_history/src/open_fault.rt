@@ -1,13 +1,11 @@
 //! Why a journal is not opened on an image.
 
 use lfs_block::MountFault;
-use lfs_book::JournalFault;
+use lfs_journal::JournalFault;
 use std::fmt;
 use thiserror::Error;
 
 /// Why a journal is not opened on an image. Want of memory is `Mount(MountFault::Memory)`.
-///
-/// Source: own.
 #[derive(Clone, Copy, Debug, PartialEq, Eq, Error)]
 pub enum OpenFault {
     /// The image does not mount, or a growth of memory was refused.

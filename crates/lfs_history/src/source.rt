@@ -1,8 +1,6 @@
 //! Where the bytes of a command come from.
 
 /// Where the bytes that a command brings come from: the contents of a file that is put, or the value of an attribute.
-///
-/// Source: own.
 #[derive(Drop)]
 pub enum Source<'a> {
     /// They come on standard input.

@@ -6,8 +6,6 @@ use std::fmt;
 use thiserror::Error;
 
 /// Why a step of a session is refused.
-///
-/// Source: own.
 #[derive(Clone, Copy, Debug, PartialEq, Eq, Error)]
 pub enum StepFault {
     /// The command is refused, or a growth of memory was.

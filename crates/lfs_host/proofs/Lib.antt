@@ -1,3 +1,5 @@
 pub mod FileLemmas
 pub mod BlameLemmas
 pub mod MemoryTreeLemmas
+pub mod SendLemmas
+pub mod WaitingLemmas

@@ -67,8 +67,8 @@ below_cut folder file rest (Some more) is slashed = sym (
     ap (below folder) (is ∙ ap (λ (xs : List ℕ). folder ++ xs) slashed) ∙ below_of folder more.now)
 
 -- all of a name without a slash is its first name
-pub whole_name : (name : List ℕ) → position_or_len (λ b. b == 47) name ≡ length name → first_name name ≡ name
-whole_name name none = ap (λ (n : ℕ). take n name) none ∙ take-length name
+pub complete_name : (name : List ℕ) → position_or_len (λ b. b == 47) name ≡ length name → first_name name ≡ name
+complete_name name none = ap (λ (n : ℕ). take n name) none ∙ take-length name
 
 -- the name that a file leads through
 pub name_is : (folder file rest name : List ℕ) → Some rest ≡ below folder file → name ≡ first_name rest → Some name ≡ name_through folder file
@@ -195,7 +195,7 @@ gathered there names listed is ordered has =
     λ P ns h. λ i d within. h (get_or ns i d) (i, within, get_or_default ns i (get_or ns i d) d within) in
     rw is (record {
       right = every (Contains there) texts (λ n in_texts. Contains-from_any equal n there (sym (same n) ∙ list_any-from_Contains nat_list_eq_equiv n texts in_texts));
-      whole = every (Contains texts) there (λ n in_there. Contains-from_any equal n texts (same n ∙ list_any-from_Contains nat_list_eq_equiv n there in_there));
+      complete = every (Contains texts) there (λ n in_there. Contains-from_any equal n texts (same n ∙ list_any-from_Contains nat_list_eq_equiv n there in_there));
       once = distinct_texts names.keys (IsDistinct-from_sorted string_cmp names.keys ordered);
     })
 
@@ -271,7 +271,7 @@ cut_by true b rest is h =
 cut_by false b rest is h =
     let more : first_name (b ∷ rest) ≡ b ∷ first_name rest = rw is (take_more (position_or_len (λ x. x == 47) rest) b rest) in
     elim h [
-      | inl whole ↦ inl (ap (λ (xs : List ℕ). b ∷ xs) whole ∙ sym more)
+      | inl complete ↦ inl (ap (λ (xs : List ℕ). b ∷ xs) complete ∙ sym more)
       | inr behind ↦ inr (behind.0, ap (λ (xs : List ℕ). b ∷ xs) behind.1 ∙ ap (λ (xs : List ℕ). xs ++ 47 ∷ behind.0) (sym more))
     ]
 
@@ -316,7 +316,7 @@ no_gap files folder n names folder_is there =
     let cut = through_by folder text n (below folder text) refl leads.2 in
     let rest : List ℕ = cut.0 in
     elim (cut_at_slash rest) [
-      | inl whole ↦ let is : text ≡ name = cut.1 ∙ ap (λ (xs : List ℕ). folder ++ 47 ∷ xs) (whole ∙ cut.2) in
+      | inl complete ↦ let is : text ≡ name = cut.1 ∙ ap (λ (xs : List ℕ). folder ++ 47 ∷ xs) (complete ∙ cut.2) in
           file_there (files_of files name) (names_through name texts)
           (file_of_name files name (ap (λ (t : List ℕ). list_any (bytes_eq t) texts) (sym is) ∙ leads.1))
       | inr behind ↦ let more : List ℕ = behind.0 in

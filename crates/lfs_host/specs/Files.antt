@@ -29,12 +29,12 @@ IsLocked files name _ = IsThere files name
 
 -- these are the first bytes of known ones, `most` of them and one more at most
 abbrev pub BeginsWith : ℕ → List ℕ → List ℕ → Type 0
-BeginsWith most whole bytes = bytes ≡ take (most + 1) whole
+BeginsWith most complete bytes = bytes ≡ take (most + 1) complete
 
 -- what is read of a file from a place on
 abbrev pub ReadsFrom : Option Files → List ℕ → ℕ → ℕ → List ℕ → Type 0
 ReadsFrom None name place most bytes = ⊤
-ReadsFrom (Some files) name place most bytes = (whole : List ℕ) × (files name ≡ Some whole) × BeginsWith most (drop place whole) bytes
+ReadsFrom (Some files) name place most bytes = (complete : List ℕ) × (files name ≡ Some complete) × BeginsWith most (drop place complete) bytes
 
 -- what is read of a file from its beginning on
 abbrev pub ReadsFile : Option Files → List ℕ → ℕ → List ℕ → Type 0
@@ -43,7 +43,7 @@ ReadsFile files name most bytes = ReadsFrom files name 0 most bytes
 -- the bytes of a file, none where there is no such file
 abbrev pub bytes_there : Option (List ℕ) → List ℕ
 bytes_there None = []
-bytes_there (Some whole) = whole
+bytes_there (Some complete) = complete
 
 -- what is read of a file that may not be there
 abbrev pub FindsFile : Option Files → List ℕ → ℕ → List ℕ → Type 0
@@ -53,7 +53,7 @@ FindsFile (Some files) name most bytes = BeginsWith most (bytes_there (files nam
 -- what is read of standard input, of which these bytes are known to be left
 abbrev pub ReadsInput : Option (List ℕ) → ℕ → List ℕ → Type 0
 ReadsInput None most bytes = ⊤
-ReadsInput (Some whole) most bytes = BeginsWith most whole bytes
+ReadsInput (Some complete) most bytes = BeginsWith most complete bytes
 
 -- what is said of files before and after, where they are known
 abbrev pub OnKnown : (Files → Files → Type 0) → Option Files → Option Files → Type 0

@@ -32,7 +32,7 @@ IsKind (Some tree) name kind = kind ≡ kind_of (tree name)
 -- these are the names in a folder, each once, in any order
 pub record AreNamesIn (there listed : List (List ℕ)) : Type 0 where
   pub right : All (λ n. Contains there n) listed
-  pub whole : All (λ n. Contains listed n) there
+  pub complete : All (λ n. Contains listed n) there
   pub once : IsDistinct bytes_eq listed
 
 -- what is listed of a folder
@@ -54,4 +54,4 @@ CannotList None name fault = ⊤
 -- what is read of a file: `most` bytes and one more at most
 abbrev pub ReadsEntry : Option HostTree → List ℕ → ℕ → List ℕ → Type 0
 ReadsEntry None name most bytes = ⊤
-ReadsEntry (Some tree) name most bytes = (whole : List ℕ) × (tree name ≡ FileOf whole) × (bytes ≡ take (most + 1) whole)
+ReadsEntry (Some tree) name most bytes = (complete : List ℕ) × (tree name ≡ FileOf complete) × (bytes ≡ take (most + 1) complete)

@@ -6,3 +6,4 @@ pub mod Failing
 pub mod MemoryFiles
 pub mod MemoryTree
 pub mod MadeEntry
+pub mod Send

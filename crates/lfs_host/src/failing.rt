@@ -4,8 +4,6 @@ ghost use Rattle.std.specs.Prelude.{◌≡◌};
 ghost use Rattle.lfs_host.specs.Failing.{behind_next, fails_next};
 
 /// Which of the calls that write or rename a file fails.
-///
-/// Source: own.
 #[derive(Clone, Copy, PartialEq, Eq)]
 pub enum Failing {
     /// None of them.
@@ -16,8 +14,6 @@ pub enum Failing {
 
 impl Failing {
     /// Counts a call, and says whether it is the one that fails.
-    ///
-    /// Source: own.
     pub fn fails(&mut self) -> bool
         ensures fails { result ≡ fails_next self.old }
         ensures counted { self.new ≡ behind_next self.old }

@@ -11,8 +11,6 @@ use crate::read_fault::ReadFault;
 use std::alloc::Global;
 
 /// A host whose folders are read. A call changes nothing.
-///
-/// Source: own.
 pub trait Folders: Known {
     /// What is under a name. Links aren't followed.
     fn kind(&mut self, name: &str) -> Result<HostKind, ReadFault>

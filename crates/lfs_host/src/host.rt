@@ -10,14 +10,12 @@ use crate::host_fault::HostFault;
 use crate::lock::Lock;
 use crate::new_folder::NewFolder;
 use crate::read_fault::ReadFault;
-use lfs_sink::Text;
+use crate::text::Text;
 use std::alloc::Global;
 use std::fmt::Display;
 
 /// Files, standard input, standard output and standard error, with folders that are read and made. A call changes nothing of
 /// what is known but what it says.
-///
-/// Source: own.
 pub trait Host: Folders + NewFolder {
     /// The name of the file that a name leads to: that of a link's target, or the name itself.
     fn target(&mut self, alloc: Global, name: &str) -> Result<String, ReadFault>
@@ -84,7 +82,7 @@ pub trait Host: Folders + NewFolder {
         ensures kept { KeepsText (Self.known self.old) (Self.known self.new) };
 
     /// Gives a file another name, in place of the file that this run holds the lock of, or where there is none of nothing.
-    /// Where it is refused both names are as they were. The caller owes that this run has claimed the name.
+    /// Where it is refused both names are as they were.
     fn rename(&mut self, from: &str, to: &str) -> Result<(), HostFault>
         requires claimed { HasClaimed (Self.known self.old) to.now }
         ensures files { MatchResult result (λ _. Renames (Self.known self.old).files (Self.known self.new).files from.now to.now)
@@ -107,7 +105,7 @@ pub trait Host: Folders + NewFolder {
         ensures kept { KeepsText (Self.known self.old) (Self.known self.new) };
 
     /// Writes the first of these bytes to standard output, at least one, and answers how many, or fails and writes
-    /// none. The caller owes a byte.
+    /// none.
     fn print(&mut self, bytes: &[u8]) -> Option<usize>
         requires some { 0 < length bytes.now }
         ensures count { IfSome result (λ n. (0 < n) × (n ≤ length bytes.now)) }

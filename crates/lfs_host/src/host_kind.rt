@@ -1,8 +1,6 @@
 //! What a host has under a name.
 
 /// What a host has under a name. Links aren't followed.
-///
-/// Source: own.
 #[derive(Clone, Copy, PartialEq, Eq)]
 pub enum HostKind {
     /// Nothing.

@@ -1,8 +1,6 @@
 //! Why a host doesn't list a folder.
 
 /// Why a host doesn't list a folder.
-///
-/// Source: own.
 #[derive(Clone, Copy, Debug, PartialEq, Eq)]
 pub enum ListFault {
     /// A growth of memory was refused.

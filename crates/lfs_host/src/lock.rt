@@ -1,8 +1,6 @@
 //! Whether a run holds the lock of a file.
 
 /// Whether a run holds the lock of a file until it ends.
-///
-/// Source: own.
 #[derive(Clone, Copy, PartialEq, Eq)]
 pub enum Lock {
     /// It does.

@@ -7,8 +7,6 @@ ghost use Rattle.lfs_host.specs.NewFolder.{FileMade, FolderMade};
 use std::alloc::{AllocError, Global};
 
 /// A folder or a file that was made on a host in memory.
-///
-/// Source: own.
 #[derive(Drop)]
 pub enum MadeEntry {
     /// A folder of this name.

@@ -5,13 +5,12 @@ ghost use Rattle.lfs_host.specs.Files.{HasRenamed, HasWritten, StaysBut};
 ghost use Rattle.lfs_host.specs.MemoryFiles.{files_of};
 
 use crate::host_fault::HostFault;
-use lfs_sink::{MemorySink, Text};
+use crate::memory_sink::MemorySink;
+use crate::text::Text;
 use std::alloc::{AllocError, Global};
 use std::collections::BTreeMap;
 
 /// The bytes of files, by their names.
-///
-/// Source: own.
 pub type MemoryFiles = BTreeMap<String, Vec<u8>>;
 
 /// Makes or replaces a file. Where memory is refused all stays.

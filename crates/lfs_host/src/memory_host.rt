@@ -19,7 +19,7 @@ use crate::memory_files::{MemoryFiles, move_file, put, put_text, take};
 use crate::memory_tree::{below, kind_of, names_in};
 use crate::new_folder::NewFolder;
 use crate::read_fault::ReadFault;
-use lfs_sink::Text;
+use crate::text::Text;
 use std::alloc::{AllocError, Global};
 use std::collections::BTreeMap;
 use std::fmt::{Display, Write};
@@ -28,8 +28,6 @@ use std::fmt::{Display, Write};
 /// link, and no other run locks one. A slash in a file's name stands behind a folder's, which is there as long as a file is below it.
 /// What is made in new folders is a list of its own, apart from the files. Its calls that write, rename or begin a file, or make a
 /// folder, can be made to fail.
-///
-/// Source: own.
 #[derive(Drop)]
 pub struct MemoryHost {
     alloc: Global,
@@ -58,9 +56,7 @@ pub struct MemoryHost {
 }
 
 impl MemoryHost {
-    /// A host without files, of which nothing fails, and on whose standard input this comes. Takes no memory.
-    ///
-    /// Source: own.
+    /// A host without files, of which nothing fails, and on whose standard input this comes.
     pub fn new(alloc: Global, typed: &'static [u8]) -> MemoryHost
         ensures files { (name : List ℕ) → files_of result.files name ≡ None }
         ensures typed { result.typed.now ≡ typed.now }
@@ -87,9 +83,7 @@ impl MemoryHost {
         }
     }
 
-    /// The bytes of a file, where it is there. Takes no memory.
-    ///
-    /// Source: own.
+    /// The bytes of a file, where it is there.
     pub fn bytes(&self, name: &str) -> Option<&[u8]>
         ensures { option_map (λ bytes. bytes.now) result ≡ files_of self.now.files name.now }
     {
@@ -98,8 +92,6 @@ impl MemoryHost {
     }
 
     /// Makes or replaces a file. Where memory is refused all stays.
-    ///
-    /// Source: own.
     pub fn put(&mut self, name: &str, bytes: &[u8]) -> Result<(), AllocError>
         ensures written { OnOk result (HasWritten name.now bytes.now (files_of self.old.files) (files_of self.new.files)) }
         ensures kept { OnErr result (files_of self.new.files ≡ files_of self.old.files) }
@@ -107,9 +99,7 @@ impl MemoryHost {
         put(self.alloc, &mut self.files, name, bytes)
     }
 
-    /// Takes a file away, where it is there. Takes no memory.
-    ///
-    /// Source: own.
+    /// Takes a file away, where it is there.
     pub fn take(&mut self, name: &str)
         ensures taken { files_of self.new.files name.now ≡ None }
         ensures kept { StaysBut (name.now ∷ []) (files_of self.old.files) (files_of self.new.files) }

@@ -69,9 +69,7 @@ pub(crate) fn names_in(
     names.into_iter().collect(alloc)
 }
 
-/// A law: what is named in a folder of files in memory is there. Takes no memory.
-///
-/// Source: own.
+/// A law: what is named in a folder of files in memory is there.
 pub fn memory_folders_have_no_gap(_files: &MemoryFiles)
     ensures { HasNoGap (tree_of _files.now) }
 {}

@@ -9,8 +9,6 @@ use crate::host_fault::HostFault;
 use crate::known::Known;
 
 /// A host on which folders and files are made, one file at a time. What is made so isn't among the host's files.
-///
-/// Source: own.
 pub trait NewFolder: Known {
     /// Makes a folder of this name.
     fn make_folder(&mut self, name: &str) -> Result<(), HostFault>
@@ -27,7 +25,7 @@ pub trait NewFolder: Known {
         ensures kept { KeepsFiles (Self.known self.old) (Self.known self.new) };
 
     /// Writes the first of these bytes to the file that is being made, at least one, and answers how many, or fails and writes
-    /// none. The caller owes a byte.
+    /// none.
     fn fill(&mut self, bytes: &[u8]) -> Option<usize>
         requires some { 0 < length bytes.now }
         ensures count { IfSome result (λ n. (0 < n) × (n ≤ length bytes.now)) }

@@ -1,8 +1,6 @@
 //! Why a host doesn't read.
 
 /// Why a file or standard input was not read.
-///
-/// Source: own.
 #[derive(Clone, Copy, Debug, PartialEq, Eq)]
 pub enum ReadFault {
     /// A growth of memory was refused.

@@ -63,7 +63,7 @@ first-change law p q d f c is =
     let rise = f.second.rise in
     let within = is.within in
     record {
-      whole = is.whole;
+      complete = is.complete;
       within = omega arith;
       old = is.old;
       new = λ past. is.new (omega (arith, past, count, rise));
@@ -78,7 +78,7 @@ second-change law p q d f c is at none =
     let within = is.within in
     let count = f.stands.count in
     record {
-      whole = subst (λ (k : ℕ). IsBlockChange k c) size is.whole;
+      complete = subst (λ (k : ℕ). IsBlockChange k c) size is.complete;
       within = omega arith;
       old = λ past.
           sym (found-below law p q d f c at none)
@@ -91,11 +91,11 @@ second-change law p q d f c is at none =
 join-change : (size mid before after : ℕ) (of_size : ℕ) → of_size ≡ size → (c d : Change) → IsChangeIn size before after c
     → IsChangeIn of_size mid after d → c.number ≡ d.number → IsChangeIn size before after (joined c d)
 join-change size mid before after of_size is c d first second same = record {
-  whole = record {
-    old = first.whole.old;
-    new = second.whole.new ∙ is;
-    old_bytes = first.whole.old_bytes;
-    new_bytes = second.whole.new_bytes;
+  complete = record {
+    old = first.complete.old;
+    new = second.complete.new ∙ is;
+    old_bytes = first.complete.old_bytes;
+    new_bytes = second.complete.new_bytes;
   };
   within = first.within;
   old = first.old;

@@ -8,8 +8,6 @@ use std::marker::Model;
 
 /// Patches that were made one after another, as one patch: a block's bytes before are those of the first patch that names it, and its
 /// bytes after those of the last. Its meaning is a `ChangeSet`.
-///
-/// Source: own.
 #[derive(Drop)]
 pub struct Joint {
     size: u32,
@@ -47,8 +45,7 @@ impl Joint {
         })
     }
 
-    /// Lays a patch over those that it is. The caller owes that the patch can be made behind them, so that both together are a patch. Want of
-    /// memory leaves it as it was.
+    /// Lays a patch over those that it is. Want of memory leaves it as it was.
     pub fn lay(&mut self, alloc: Global, change: &Patch) -> Result<(), AllocError>
         requires { IsGrowth (composed self.old change.now) }
         ensures done { OnOk result (self.new ≡ composed self.old change.now) }
@@ -61,7 +58,7 @@ impl Joint {
         Ok(())
     }
 
-    /// The patch that it is. Takes no memory.
+    /// The patch that it is.
     pub fn into_patch(self) -> Patch
         ensures { result ≡ self }
     {

@@ -13,8 +13,7 @@ fn join(record: &mut Record, later: Record)
     record.new = later.new;
 }
 
-/// Lays a change over others, whose numbers rise: it goes into the one of its block, or to its place where there is none. The caller owes
-/// the room for one more. Takes no memory.
+/// Lays a change over others, whose numbers rise: it goes into the one of its block, or to its place where there is none.
 fn lay(records: &mut Vec<Record>, change: Record)
     requires rising { IsRising records.old.items }
     requires room { vec_len records.old < vec_capacity records.old }
@@ -31,7 +30,7 @@ fn lay(records: &mut Vec<Record>, change: Record)
     prove!(put.is_ok());
 }
 
-/// Lays changes over others, whose numbers rise, one after another. The caller owes the room for as many more. Takes no memory.
+/// Lays changes over others, whose numbers rise, one after another.
 pub(crate) fn lay_over(records: &mut Vec<Record>, changes: Vec<Record>)
     requires rising { IsRising records.old.items }
     requires room { vec_len records.old + vec_len changes ≤ vec_capacity records.old }

@@ -1,4 +1,5 @@
-pub mod Known
-pub mod Opened
-pub mod Beside
-pub mod Joining
+pub mod Book
+pub mod Reading
+pub mod Faults
+pub mod Laws
+pub mod HeadSeen

@@ -1,27 +1,14 @@
-//! An image with its changes, each of which can be taken back exactly.
+//! The journal of an image: which changes were made and which were taken back, as a value and as bytes.
 #![tactic(auto)]
 
-mod agreeing;
-mod batching;
-mod carried;
-mod joining;
-mod keeping;
-mod known;
-mod mounting;
-mod moving;
-mod opening;
-mod refused;
-mod replacing;
-mod reserving;
-mod session;
-mod stepping;
-mod stopped;
-mod unmounted;
+mod journal;
+mod journal_fault;
+mod laws;
+mod reading;
+mod writing;
 
-pub use lfs_history::{Move, OpenFault, StepFault};
-pub use opening::{Changes, read_changes};
-pub use refused::Refused;
-pub use session::Session;
-pub use stepping::run_steps;
-pub use stopped::Stopped;
-pub use unmounted::Unmounted;
+pub use journal::{Journal, MAX_JOURNAL_LENGTH};
+pub use journal_fault::JournalFault;
+pub use laws::{books_are_read_once, journals_are_short};
+pub use reading::MOST_CHANGES;
+pub use writing::write_journal;

@@ -46,11 +46,11 @@ delta_added k new (d ∷ ds) zero = go (begins_at k d) (delta_added k new ds zer
         let here = delta_append (parts (touch_last d)) (thread (new ∷ ds)) in
         let same = (keeps_touch_last d).delta in
         let middle = delta_append (parts new) (thread ds) in
-        let whole = delta_append (parts d) (thread ds) in
+        let complete = delta_append (parts d) (thread ds) in
         here
         ∙ ap (λ (x : ℕ). bit_xor x (delta_of (thread (new ∷ ds)))) same
         ∙ ap (bit_xor (delta_of (parts d))) (middle ∙ ap (λ (x : ℕ). bit_xor x (delta_of (thread ds))) zero)
-        ∙ sym whole
+        ∙ sym complete
     go false later = delta_append (parts d) (thread (add_after k new ds)) ∙ ap (bit_xor (delta_of (parts d))) later
         ∙ sym (delta_append (parts d) (thread ds))
 

@@ -8,10 +8,10 @@ use Rattle.lfs_meta.specs.declared.live_block.LiveBlock.TheVariants.{First, Seco
 use Rattle.lfs_meta.specs.LiveBlock.{live_block}
 use Rattle.lfs_meta.specs.Part.{StoredPart}
 use Rattle.lfs_tag.specs.Commit.{Item}
-use Rattle.lfs_commit.specs.Appending.{appended_tags, live_of, number_by, number_with}
-use Rattle.lfs_commit.specs.Difference.{Forced}
+use Rattle.lfs_pair.specs.Appending.{appended_tags, live_of, number_by, number_with}
+use Rattle.lfs_pair.specs.Difference.{Forced}
 use Rattle.lfs_command.specs.PairChanged.{beside, pair_number}
-use Rattle.lfs_commit.specs.Writing.{other_than, other_number}
+use Rattle.lfs_pair.specs.Writing.{other_than, other_number}
 use Rattle.lfs_fs.specs.Uses.{times}
 use Rattle.lfs_law.specs.WrittenLinks.{changed_blocks, number_in}
 

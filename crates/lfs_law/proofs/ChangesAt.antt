@@ -75,13 +75,13 @@ with_rising c (e ∷ es) apart rising = by (nat_lt e.number c.number) refl (with
 -- of the blocks of an image, with contents of their size
 pub record FitsAt (d : Disk) (c : Change) : Type 0 where
   pub stands : Stands d c
-  pub whole : IsBlockChange d.size c
+  pub complete : IsBlockChange d.size c
 
-pub change_whole : (d : Disk) (b : ℕ) (new : List ℕ) → IsDisk d → b < d.count → length new ≡ d.size → IsBytes new → IsBytes (block_of d b)
+pub change_complete : (d : Disk) (b : ℕ) (new : List ℕ) → IsDisk d → b < d.count → length new ≡ d.size → IsBytes new → IsBytes (block_of d b)
     → FitsAt d (change_at d b new)
-change_whole d b new disk below len bytes old = record {
+change_complete d b new disk below len bytes old = record {
   stands = (below, refl);
-  whole = record { old = length-block d b disk below; new = len; old_bytes = old; new_bytes = bytes };
+  complete = record { old = length-block d b disk below; new = len; old_bytes = old; new_bytes = bytes };
 }
 
 pub changes_all : (P : Change → Type 0) (d : Disk) (blocks : List ℕ) (contents : List (List ℕ)) (N : ℕ → Type 0) (C : List ℕ → Type 0)

@@ -21,7 +21,7 @@ use Rattle.lfs_command.specs.Command.{Command, Mkdir, Put, Rm, Mv, SetAttr, RmAt
 use Rattle.lfs_command.specs.Growth.{count_after}
 use Rattle.lfs_command.specs.Equation.{equation, attributes_of, attributes_at, with_attributes}
 use Rattle.lfs_command.specs.Supplies.{Supplies, AreFree, supply_uses, most_inline, new_body}
-use Rattle.lfs_command.specs.Home.{home_of}
+use Rattle.lfs_command.specs.Parent.{parent_of}
 use Rattle.lfs_command.specs.Edited.{edited, put_file, remove_entry, move_entry, set_attributes}
 use Rattle.lfs_command.specs.Verdict.{refuse_if, walk_refusal, is_directory, is_root, last_length, is_bare, lies_below}
 use Rattle.lfs_command.specs.Accepted.{IsAccepted}
@@ -29,7 +29,7 @@ use Rattle.lfs_command.specs.Freed.{content_uses, freed_uses}
 use Rattle.lfs_law.specs.Laws.{CommandsFollow}
 use Rattle.lfs_law.proofs.AttributeLemmas.{set_good, remove_good}
 use Rattle.lfs_law.proofs.GrowFollows.{grow_follows}
-use Rattle.lfs_law.proofs.Homes.{first_passes, test_passes, not_false}
+use Rattle.lfs_law.proofs.Parents.{first_passes, test_passes, not_false}
 use Rattle.lfs_law.proofs.Carries.{Carries}
 use Rattle.lfs_law.proofs.EdgeEdits.{Puts}
 use Rattle.lfs_law.proofs.Placed.{IsPlaced, is_placed}
@@ -76,7 +76,7 @@ puts_carry v c s p x gone came stays same freed taken puts = record {
 
 attributes_set : (v : Volume) (p : Path) (f : Attributes → Attributes) → NamesAreOrdered → IsSound v → All IsName p → KeepsGood f v
     → walk_refusal (tree v) [] p ≡ None → is_none (tree v p) ≡ false
-    → Puts v (set_attributes v f (home_of v p)) p (option_map (with_attributes f) (tree v p)) (λ b. 0) (λ b. 0)
+    → Puts v (set_attributes v f (parent_of v p)) p (option_map (with_attributes f) (tree v p)) (λ b. 0) (λ b. 0)
 attributes_set v [] f ordered sound names keeps walk there = root_set_follows v f sound keeps
 attributes_set v (n ∷ ns) f ordered sound names keeps walk there =
     let e = is_there v (n ∷ ns) there in
@@ -116,7 +116,7 @@ made_follows v p s ordered ok =
     let at = is_placed v p ok.sound (All-head (All IsName) p [] ok.names) (test_passes (is_root p) IsRoot below.0) walk.0 in
     puts_carry v (Mkdir p) s p (Some (Dir [])) (λ b. 0) (λ b. times b (s.pair.0 ∷ s.pair.1 ∷ [])) refl (λ q. refl) (λ b. refl) (λ b. refl)
     (mkdir_follows v p s.pair ordered ok.sound at (is_free v p (test_passes (is_some (tree v p)) Exists new.0))
-    (ltb-false v.limits.name (length at.home.name) (ap (nat_lt v.limits.name) (sym at.home.len)
+    (ltb-false v.limits.name (length at.parent.name) (ap (nat_lt v.limits.name) (sym at.parent.len)
     ∙ test_passes (nat_lt v.limits.name (last_length p)) NameTooLong short.0))
     (record { once = ok.free.once; within = ok.free.within }))
 
@@ -156,13 +156,13 @@ attributes_shown (Directory_at pair) a = refl
 put_by : (v : Volume) (p : Path) (bytes : List ℕ) (body : Body) → NamesAreOrdered → IsSound v → (at : IsPlaced v p) → IsNewBody v body bytes
     → (o : Option Entry) → entry_at v p ≡ o
     → is_directory (option_map node o) ≡ false → (is_none (option_map node o) && nat_lt v.limits.name (last_length p)) ≡ false
-    → Puts v (put_file v body (home_of v p) o) p (Some (File bytes (attributes_at (option_map node o))))
+    → Puts v (put_file v body (parent_of v p) o) p (Some (File bytes (attributes_at (option_map node o))))
     (λ b. unwrap_or (option_map (entry_uses b) o) 0) (λ b. body_uses b body)
 put_by v p bytes body ordered sound at new None is file short =
-    new_file_follows v p body bytes ordered sound at is (ltb-false v.limits.name (length at.home.name)
-    (ap (nat_lt v.limits.name) (sym at.home.len) ∙ short)) new
+    new_file_follows v p body bytes ordered sound at is (ltb-false v.limits.name (length at.parent.name)
+    (ap (nat_lt v.limits.name) (sym at.parent.len) ∙ short)) new
 put_by v p bytes body ordered sound at new (Some e) is file short =
-    subst (λ (a : Attributes). Puts v (put_file v body (home_of v p) (Some e)) p (Some (File bytes a)) (λ b. entry_uses b e)
+    subst (λ (a : Attributes). Puts v (put_file v body (parent_of v p) (Some e)) p (Some (File bytes a)) (λ b. entry_uses b e)
     (λ b. body_uses b body)) (sym (attributes_shown e.body e.attributes))
     (old_file_follows v p body bytes e ordered sound at is (file_leads e.body e.attributes file) new)
 
@@ -199,7 +199,7 @@ removed_follows v p s ordered ok =
     puts_carry v (Rm p) s p None (λ b. entry_uses b e.0 + target_uses_of v (target e.0) b) (λ b. 0) refl (λ q. refl)
     (λ b. ap (λ (o : Option Entry). unwrap_or (option_map (entry_uses b) o) 0 + target_uses_of v (option_and_then target o) b) e.1)
     (λ b. refl)
-    (subst (λ (o : Option Entry). Puts v (remove_entry v (home_of v p) o) p None (λ b. entry_uses b e.0 + target_uses_of v (target e.0) b)
+    (subst (λ (o : Option Entry). Puts v (remove_entry v (parent_of v p) o) p None (λ b. entry_uses b e.0 + target_uses_of v (target e.0) b)
     (λ b. 0)) (sym e.1)
     (rm_follows v p e.0 ordered ok.sound at e.1 (ap (λ (o : Option Entry). is_bare v (option_and_then target o)) (sym e.1) ∙ empty)))
 
@@ -219,10 +219,10 @@ moved_follows v p q s ordered ok =
     let to = is_placed v q ok.sound (All-head (All IsName) q [] (All-tail (All IsName) p (q ∷ []) ok.names)) roots.1 to_walk.0 in
     let e = is_there v p (test_passes (is_none (tree v p)) NotFound there.0) in
     let moves : Moves v (edited v (Mv p q) s) p q =
-    subst (λ (o : Option Entry). Moves v (move_entry v (home_of v p) (home_of v q) o) p q) (sym e.1)
+    subst (λ (o : Option Entry). Moves v (move_entry v (parent_of v p) (parent_of v q) o) p q) (sym e.1)
     (mv_follows v p q e.0 ordered ok.sound from to e.1 (is_free v q (test_passes (is_some (tree v q)) Exists new.0))
     (test_passes (lies_below p q) IntoItself off.0)
-    (ltb-false v.limits.name (length to.home.name) (ap (nat_lt v.limits.name) (sym to.home.len)
+    (ltb-false v.limits.name (length to.parent.name) (ap (nat_lt v.limits.name) (sym to.parent.len)
     ∙ test_passes (nat_lt v.limits.name (last_length q)) NameTooLong short.0))) in
     record {
       follows = record {

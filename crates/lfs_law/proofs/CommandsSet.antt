@@ -27,7 +27,7 @@ use Rattle.lfs_command.specs.DirectoryEdit.{absorb_in, absorb, taking_up}
 use Rattle.lfs_command.specs.ThreadEdit.{in_directory, link, unlink, change, add_after, take_out, drop_directory, touch_first}
 use Rattle.lfs_command.specs.Command.{Command, Mkdir, Put, Rm, Mv, SetAttr, RmAttr, Grow}
 use Rattle.lfs_command.specs.Supplies.{Supplies, new_body}
-use Rattle.lfs_command.specs.Home.{home_of}
+use Rattle.lfs_command.specs.Parent.{parent_of}
 use Rattle.lfs_command.specs.Edited.{with_body, with_entry_attributes, renamed, new_entry, empty_directory, set_attributes, make_directory}
 use Rattle.lfs_command.specs.Edited.{put_file, drop_target, remove_entry, move_entry, edited}
 use Rattle.lfs_command.specs.Accepted.{IsAccepted}
@@ -38,10 +38,10 @@ use Rattle.lfs_command.specs.Verdict.{refuse_if, walk_refusal, is_root, lies_bel
 use Rattle.lfs_law.proofs.CommandsFollow.{is_there}
 use Rattle.lfs_law.proofs.DirectoryEdits.{entries_of, pairs, keeps_link, keeps_unlink, keeps_change}
 use Rattle.lfs_law.proofs.EdgeEdits.{sound_is_good}
-use Rattle.lfs_law.proofs.EntriesThere.{stands_at_home}
-use Rattle.lfs_law.proofs.FewParts.{home_once, count_thread}
+use Rattle.lfs_law.proofs.EntriesThere.{stands_at_parent}
+use Rattle.lfs_law.proofs.FewParts.{parent_once, count_thread}
 use Rattle.lfs_law.proofs.Found.{found_le, found_passes}
-use Rattle.lfs_law.proofs.Homes.{first_passes, test_passes}
+use Rattle.lfs_law.proofs.Parents.{first_passes, test_passes}
 use Rattle.lfs_law.proofs.InDirectory.{KeepsAllParts, find_here}
 use Rattle.lfs_law.proofs.LinksAdded.{first_used}
 use Rattle.lfs_law.proofs.OnePath.{entry_found}
@@ -288,69 +288,69 @@ abbrev sets : Volume → Volume → Type 0
 sets v w = 1 ≤ count (old_to v) (thread w.directories)
 
 attributes_set : (v : Volume) (p : Path) (f : Attributes → Attributes) → IsSound v → is_none (tree v p) ≡ false → (h : Option (Pair × Name))
-    → home_of v p ≡ h → sets v (set_attributes v f h)
+    → parent_of v p ≡ h → sets v (set_attributes v f h)
 attributes_set v p f sound some None is = touch_first_sets (old_to v) v.directories sound.starts (have_old v)
 attributes_set v p f sound some (Some h) is =
     let e = is_there v p some in
-    change_one (old_to v) h.0 h.1 (with_entry_attributes f) v.directories e.0 (have_old v) (sym (stands_at_home v p h.0 h.1 is) ∙ e.1)
+    change_one (old_to v) h.0 h.1 (with_entry_attributes f) v.directories e.0 (have_old v) (sym (stands_at_parent v p h.0 h.1 is) ∙ e.1)
 
-file_put : (v : Volume) (p : Path) (body : Body) → IsSound v → (h : Pair × Name) → home_of v p ≡ Some h → (old : Option Entry)
+file_put : (v : Volume) (p : Path) (body : Body) → IsSound v → (h : Pair × Name) → parent_of v p ≡ Some h → (old : Option Entry)
     → entry_at v p ≡ old → sets v (put_file v body (Some h) old)
-file_put v p body sound h is None there = link_one (old_to v) h.0 (new_entry h.1 body) v.directories (have_old v) (home_once v p h sound is)
+file_put v p body sound h is None there = link_one (old_to v) h.0 (new_entry h.1 body) v.directories (have_old v) (parent_once v p h sound is)
 file_put v p body sound h is (Some e) there = change_one (old_to v) h.0 h.1 (with_body body) v.directories e (have_old v)
-    (sym (stands_at_home v p h.0 h.1 is) ∙ there)
+    (sym (stands_at_parent v p h.0 h.1 is) ∙ there)
 
-directory_made : (v : Volume) (p : Path) (pair : Pair) → IsSound v → (h : Pair × Name) → home_of v p ≡ Some h
+directory_made : (v : Volume) (p : Path) (pair : Pair) → IsSound v → (h : Pair × Name) → parent_of v p ≡ Some h
     → sets v (make_directory v pair (Some h))
 directory_made v p pair sound h is =
     let linked : List Directory = link h.0 (new_entry h.1 (Directory_at pair)) v.directories in
     omega (
       arith,
-      link_one (old_to v) h.0 (new_entry h.1 (Directory_at pair)) v.directories (have_old v) (home_once v p h sound is),
+      link_one (old_to v) h.0 (new_entry h.1 (Directory_at pair)) v.directories (have_old v) (parent_once v p h sound is),
       count_thread (set_old (old_to v)) linked,
       count_thread (set_old (old_to v)) (add_after h.0 (empty_directory pair) linked),
       add_keeps (old_to v) h.0 (empty_directory pair) linked,
     )
 
-entry_removed : (v : Volume) (p : Path) (h : Pair × Name) → home_of v p ≡ Some h → (e : Entry) → entry_at v p ≡ Some e
+entry_removed : (v : Volume) (p : Path) (h : Pair × Name) → parent_of v p ≡ Some h → (e : Entry) → entry_at v p ≡ Some e
     → sets v (remove_entry v (Some h) (Some e))
 entry_removed v p h is e there =
     drop_target_keeps (old_to v) (target e) (unlink h.0 h.1 v.directories)
     (old_in (old_to v) h.0 (unlink_in h.1) v.directories (keeps_unlink h.1) (have_old v))
-    (unlink_one (old_to v) h.0 h.1 v.directories e (have_old v) (sym (stands_at_home v p h.0 h.1 is) ∙ there))
+    (unlink_one (old_to v) h.0 h.1 v.directories e (have_old v) (sym (stands_at_parent v p h.0 h.1 is) ∙ there))
 
-entry_moved : (v : Volume) (p q : Path) → NamesAreOrdered → IsSound v → (h g : Pair × Name) → home_of v p ≡ Some h → home_of v q ≡ Some g
+entry_moved : (v : Volume) (p q : Path) → NamesAreOrdered → IsSound v → (h g : Pair × Name) → parent_of v p ≡ Some h → parent_of v q ≡ Some g
     → (e : Entry) → entry_at v p ≡ Some e
     → sets v (move_entry v (Some h) (Some g) (Some e))
 entry_moved v p q ordered sound h g is goes e there =
     let ds : List Directory = unlink h.0 h.1 v.directories in
-    let effect = unlink_effect v.limits h.0 h.1 e v.directories ordered (sound_is_good v sound) (home_once v p h sound is)
-    (sym (stands_at_home v p h.0 h.1 is) ∙ there) in
+    let effect = unlink_effect v.limits h.0 h.1 e v.directories ordered (sound_is_good v sound) (parent_once v p h sound is)
+    (sym (stands_at_parent v p h.0 h.1 is) ∙ there) in
     link_one (old_to v) g.0 (renamed g.1 e) ds (old_in (old_to v) h.0 (unlink_in h.1) v.directories (keeps_unlink h.1) (have_old v))
-    (omega (arith, home_once v q g sound goes, effect.directories g.0))
+    (omega (arith, parent_once v q g sound goes, effect.directories g.0))
 
 some_set : NamesAreOrdered → (v : Volume) (c : Command) (s : Supplies) → IsAccepted v c s → sets v (edited v c s)
 some_set ordered v (Mkdir p) s ok =
     let below = first_passes (refuse_if (is_root p) IsRoot) _ ok.unrefused in
     let walk = first_passes (walk_refusal (tree v) [] p) _ below.1 in
     let at = is_placed v p ok.sound (All-head (All IsName) p [] ok.names) (test_passes (is_root p) IsRoot below.0) walk.0 in
-    subst (λ (o : Option (Pair × Name)). sets v (make_directory v s.pair o)) (sym at.home.home)
-    (directory_made v p s.pair ok.sound (at.home.pair, at.home.name) at.home.home)
+    subst (λ (o : Option (Pair × Name)). sets v (make_directory v s.pair o)) (sym at.parent.parent)
+    (directory_made v p s.pair ok.sound (at.parent.pair, at.parent.name) at.parent.parent)
 some_set ordered v (Put p bytes) s ok =
     let below = first_passes (refuse_if (is_root p) IsRoot) _ ok.unrefused in
     let walk = first_passes (walk_refusal (tree v) [] p) _ below.1 in
     let at = is_placed v p ok.sound (All-head (All IsName) p [] ok.names) (test_passes (is_root p) IsRoot below.0) walk.0 in
-    subst (λ (o : Option (Pair × Name)). sets v (put_file v (new_body v s bytes) o (entry_at v p))) (sym at.home.home)
-    (file_put v p (new_body v s bytes) ok.sound (at.home.pair, at.home.name) at.home.home (entry_at v p) refl)
+    subst (λ (o : Option (Pair × Name)). sets v (put_file v (new_body v s bytes) o (entry_at v p))) (sym at.parent.parent)
+    (file_put v p (new_body v s bytes) ok.sound (at.parent.pair, at.parent.name) at.parent.parent (entry_at v p) refl)
 some_set ordered v (Rm p) s ok =
     let below = first_passes (refuse_if (is_root p) IsRoot) _ ok.unrefused in
     let walk = first_passes (walk_refusal (tree v) [] p) _ below.1 in
     let there = first_passes (refuse_if (is_none (tree v p)) NotFound) _ walk.1 in
     let at = is_placed v p ok.sound (All-head (All IsName) p [] ok.names) (test_passes (is_root p) IsRoot below.0) walk.0 in
     let e = is_there v p (test_passes (is_none (tree v p)) NotFound there.0) in
-    subst (λ (o : Option Entry). sets v (remove_entry v (home_of v p) o)) (sym e.1)
-    (subst (λ (o : Option (Pair × Name)). sets v (remove_entry v o (Some e.0))) (sym at.home.home)
-    (entry_removed v p (at.home.pair, at.home.name) at.home.home e.0 e.1))
+    subst (λ (o : Option Entry). sets v (remove_entry v (parent_of v p) o)) (sym e.1)
+    (subst (λ (o : Option (Pair × Name)). sets v (remove_entry v o (Some e.0))) (sym at.parent.parent)
+    (entry_removed v p (at.parent.pair, at.parent.name) at.parent.parent e.0 e.1))
 some_set ordered v (Mv p q) s ok =
     let below = first_passes (refuse_if (is_root p || is_root q) IsRoot) _ ok.unrefused in
     let from_walk = first_passes (walk_refusal (tree v) [] p) _ below.1 in
@@ -361,18 +361,18 @@ some_set ordered v (Mv p q) s ok =
     let from = is_placed v p ok.sound (All-head (All IsName) p (q ∷ []) ok.names) roots.0 from_walk.0 in
     let to = is_placed v q ok.sound (All-head (All IsName) q [] (All-tail (All IsName) p (q ∷ []) ok.names)) roots.1 to_walk.0 in
     let e = is_there v p (test_passes (is_none (tree v p)) NotFound there.0) in
-    subst (λ (o : Option Entry). sets v (move_entry v (home_of v p) (home_of v q) o)) (sym e.1)
-    (subst (λ (o : Option (Pair × Name)). sets v (move_entry v o (home_of v q) (Some e.0))) (sym from.home.home)
-    (subst (λ (o : Option (Pair × Name)). sets v (move_entry v (Some (from.home.pair, from.home.name)) o (Some e.0))) (sym to.home.home)
-    (entry_moved v p q ordered ok.sound (from.home.pair, from.home.name) (to.home.pair, to.home.name) from.home.home to.home.home e.0 e.1)))
+    subst (λ (o : Option Entry). sets v (move_entry v (parent_of v p) (parent_of v q) o)) (sym e.1)
+    (subst (λ (o : Option (Pair × Name)). sets v (move_entry v o (parent_of v q) (Some e.0))) (sym from.parent.parent)
+    (subst (λ (o : Option (Pair × Name)). sets v (move_entry v (Some (from.parent.pair, from.parent.name)) o (Some e.0))) (sym to.parent.parent)
+    (entry_moved v p q ordered ok.sound (from.parent.pair, from.parent.name) (to.parent.pair, to.parent.name) from.parent.parent to.parent.parent e.0 e.1)))
 some_set ordered v (SetAttr p k value) s ok =
     let walk = first_passes (walk_refusal (tree v) [] p) _ ok.unrefused in
     let there = first_passes (refuse_if (is_none (tree v p)) NotFound) _ walk.1 in
-    attributes_set v p (set_attribute k value) ok.sound (test_passes (is_none (tree v p)) NotFound there.0) (home_of v p) refl
+    attributes_set v p (set_attribute k value) ok.sound (test_passes (is_none (tree v p)) NotFound there.0) (parent_of v p) refl
 some_set ordered v (RmAttr p k) s ok =
     let walk = first_passes (walk_refusal (tree v) [] p) _ ok.unrefused in
     let there = first_passes (refuse_if (is_none (tree v p)) NotFound) _ walk.1 in
-    attributes_set v p (remove_attribute k) ok.sound (test_passes (is_none (tree v p)) NotFound there.0) (home_of v p) refl
+    attributes_set v p (remove_attribute k) ok.sound (test_passes (is_none (tree v p)) NotFound there.0) (parent_of v p) refl
 some_set ordered v (Grow n) s ok = touch_first_sets (old_to v) v.directories ok.sound.starts (have_old v)
 
 pub commands_set_a_part : NamesAreOrdered → CommandsSetAPart

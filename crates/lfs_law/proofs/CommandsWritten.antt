@@ -35,7 +35,7 @@ use Rattle.lfs_command.specs.ThreadEdit.{touch_first}
 use Rattle.lfs_command.specs.Command.{Command, Mkdir, Put, Rm, Mv, SetAttr, RmAttr, Grow}
 use Rattle.lfs_command.specs.Growth.{grown}
 use Rattle.lfs_command.specs.Supplies.{Supplies, new_body}
-use Rattle.lfs_command.specs.Home.{home_of}
+use Rattle.lfs_command.specs.Parent.{parent_of}
 use Rattle.lfs_command.specs.Edited.{set_attributes, make_directory, put_file, remove_entry, move_entry, edited}
 use Rattle.lfs_command.specs.Cut.{cut_directory, cut}
 use Rattle.lfs_command.specs.Accepted.{Follows}
@@ -266,27 +266,27 @@ superblock_kept : (chosen : Part → List Pair) (v : Volume) (c : Command) (s : 
     → (l : Link) → Contains (links (cut chosen (edited v c s)).directories) l → l.part.pair ≡ root → l.part.dirty ≡ false
     → ((edited v c s).attributes ≡ v.attributes) × (volume_bytes (cut chosen (edited v c s)) ≡ volume_bytes v)
 superblock_kept chosen v (Mkdir p) s sound after l there is unset = (
-  make_attributes v s.pair (home_of v p),
+  make_attributes v s.pair (parent_of v p),
   bytes_same v (cut chosen (edited v (Mkdir p) s)) after.size after.count after.limits,
 )
 superblock_kept chosen v (Put p bytes) s sound after l there is unset = (
-  put_attributes v (new_body v s bytes) (home_of v p) (entry_at v p),
+  put_attributes v (new_body v s bytes) (parent_of v p) (entry_at v p),
   bytes_same v (cut chosen (edited v (Put p bytes) s)) after.size after.count after.limits,
 )
 superblock_kept chosen v (Rm p) s sound after l there is unset = (
-  remove_attributes v (home_of v p) (entry_at v p),
+  remove_attributes v (parent_of v p) (entry_at v p),
   bytes_same v (cut chosen (edited v (Rm p) s)) after.size after.count after.limits,
 )
 superblock_kept chosen v (Mv p q) s sound after l there is unset = (
-  move_attributes v (home_of v p) (home_of v q) (entry_at v p),
+  move_attributes v (parent_of v p) (parent_of v q) (entry_at v p),
   bytes_same v (cut chosen (edited v (Mv p q) s)) after.size after.count after.limits,
 )
 superblock_kept chosen v (SetAttr p k value) s sound after l there is unset = (
-  set_attributes_kept chosen v (set_attribute k value) (home_of v p) sound after.sound l there is unset,
+  set_attributes_kept chosen v (set_attribute k value) (parent_of v p) sound after.sound l there is unset,
   bytes_same v (cut chosen (edited v (SetAttr p k value) s)) after.size after.count after.limits,
 )
 superblock_kept chosen v (RmAttr p k) s sound after l there is unset = (
-  set_attributes_kept chosen v (remove_attribute k) (home_of v p) sound after.sound l there is unset,
+  set_attributes_kept chosen v (remove_attribute k) (parent_of v p) sound after.sound l there is unset,
   bytes_same v (cut chosen (edited v (RmAttr p k) s)) after.size after.count after.limits,
 )
 superblock_kept chosen v (Grow n) s sound after l there is unset =

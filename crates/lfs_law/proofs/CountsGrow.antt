@@ -8,7 +8,7 @@ use Rattle.lfs_command.specs.declared.refusal.Refusal.TheVariants.{BadCount}
 use Rattle.lfs_command.specs.Command.{Mkdir, Put, Rm, Mv, SetAttr, RmAttr, Grow}
 use Rattle.lfs_command.specs.Verdict.{refuse_if}
 use Rattle.lfs_law.specs.CountsGrow.{CountsGrow}
-use Rattle.lfs_law.proofs.Homes.{first_passes, test_passes, not_false}
+use Rattle.lfs_law.proofs.Parents.{first_passes, test_passes, not_false}
 
 pub grows : (v : Volume) (n : ℕ) → refuse_if (not (nat_lt v.count n && is_geometry v.size n)) BadCount ≡ None
     → IsGeometry v.size n × (v.count < n)

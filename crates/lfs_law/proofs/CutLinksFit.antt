@@ -13,9 +13,9 @@ use Rattle.lfs_meta.specs.Fits.{TailFits}
 use Rattle.lfs_meta.specs.Laws.{NamesAreDecided}
 use Rattle.lfs_meta.specs.Name.{IsName}
 use Rattle.lfs_meta.specs.Body.{body_bytes}
-use Rattle.lfs_meta.specs.Whole.{IsWhole}
+use Rattle.lfs_meta.specs.Complete.{IsComplete}
 use Rattle.lfs_meta.specs.Weighing.{attributes_weight, weights, weight as stored_weight}
-use Rattle.lfs_meta.specs.Whole.{kind_takes_body, kind_takes_name}
+use Rattle.lfs_meta.specs.Complete.{kind_takes_body, kind_takes_name}
 use Rattle.lfs_fs.specs.AsStored.{stored_kind, stored_body, stored_entry}
 use Rattle.lfs_fs.specs.Directory.{Part, Directory, parts, entries, thread}
 use Rattle.lfs_fs.specs.Entry.{Body, Inline, Chain, Directory_at, Entry}
@@ -97,21 +97,21 @@ name_taken decided (Inline bytes) n is = (decided n).1 is
 name_taken decided (Chain blocks bytes) n is = (decided n).1 is
 name_taken decided (Directory_at pair) n is = (decided n).1 is
 
-each_whole : NamesAreDecided → (es : List Entry) → All (λ e. IsName e.name) es → AllByRecursion IsWhole (map stored_entry es)
-each_whole decided [] names = tt
-each_whole decided (e ∷ es) names = (
+each_complete : NamesAreDecided → (es : List Entry) → All (λ e. IsName e.name) es → AllByRecursion IsComplete (map stored_entry es)
+each_complete decided [] names = tt
+each_complete decided (e ∷ es) names = (
   record { body = body_taken e.body; name = name_taken decided e.body e.name (All-head (λ x. IsName x.name) e es names) },
-  each_whole decided es (All-tail (λ x. IsName x.name) e es names),
+  each_complete decided es (All-tail (λ x. IsName x.name) e es names),
 )
 
-stored_whole : NamesAreDecided → (bytes : List ℕ) (attributes : Attributes) (p : Part) → All (λ e. IsName e.name) p.entries
-    → AllByRecursion IsWhole (stored_entries bytes attributes p)
-stored_whole decided bytes attributes p names = by (is_first p)
+stored_complete : NamesAreDecided → (bytes : List ℕ) (attributes : Attributes) (p : Part) → All (λ e. IsName e.name) p.entries
+    → AllByRecursion IsComplete (stored_entries bytes attributes p)
+stored_complete decided bytes attributes p names = by (is_first p)
   where
-    by : (t : Bool) → AllByRecursion IsWhole (if t then superblock_entry bytes attributes
+    by : (t : Bool) → AllByRecursion IsComplete (if t then superblock_entry bytes attributes
         ∷ map stored_entry p.entries else map stored_entry p.entries)
-    by true = (record { body = refl; name = refl }, each_whole decided p.entries names)
-    by false = each_whole decided p.entries names
+    by true = (record { body = refl; name = refl }, each_complete decided p.entries names)
+    by false = each_complete decided p.entries names
 
 -- ---- names, by parts
 
@@ -224,7 +224,7 @@ cut_links_can_be_written decided follow d v c s chosen new disk len ok pairs =
           apart = pair_apart d.count w follows.sound count m.part part;
           first = below.0;
           second = below.1;
-          whole = stored_whole decided new w.attributes (outlined_link m).part names;
+          complete = stored_complete decided new w.attributes (outlined_link m).part names;
           few = omega (
             arith,
             stored_many new w.attributes (outlined_link m).part,

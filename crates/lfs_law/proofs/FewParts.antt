@@ -22,7 +22,7 @@ use Rattle.lfs_fs.specs.Sound.{IsSound}
 use Rattle.lfs_command.specs.ThreadEdit.{link, unlink, add_after}
 use Rattle.lfs_command.specs.Command.{Mkdir, Put, Rm, Mv, SetAttr, RmAttr, Grow}
 use Rattle.lfs_command.specs.Supplies.{Supplies, new_body}
-use Rattle.lfs_command.specs.Home.{split_last, home_of}
+use Rattle.lfs_command.specs.Parent.{split_last, parent_of}
 use Rattle.lfs_command.specs.Edited.{with_body, with_entry_attributes, renamed, new_entry, empty_directory, set_attributes, make_directory}
 use Rattle.lfs_command.specs.Edited.{put_file, drop_target, remove_entry, move_entry, edited}
 use Rattle.lfs_command.specs.Clean.{IsClean}
@@ -38,15 +38,15 @@ use Rattle.lfs_law.proofs.LinksAdded.{first_used}
 use Rattle.lfs_law.proofs.NamedBlocks.{new_is}
 use Rattle.lfs_law.proofs.Marks.{marks, marks_link, marks_unlink, marks_change, marks_add_after, marks_drop, marks_touch_first}
 use Rattle.lfs_law.proofs.EdgeEdits.{sound_is_good}
-use Rattle.lfs_law.proofs.Homes.{first_passes, test_passes}
+use Rattle.lfs_law.proofs.Parents.{first_passes, test_passes}
 use Rattle.lfs_law.proofs.Placed.{IsPlaced, is_placed, led_directory}
 use Rattle.lfs_law.proofs.MkdirFollows.{IsNewPair, none_begins}
 
--- ---- homes
+-- ---- parents
 
--- where a path has a home, one directory begins there
-pub home_once : (v : Volume) (p : Path) (h : Pair × Name) → IsSound v → home_of v p ≡ Some h → count_by (begins_at h.0) v.directories ≡ 1
-home_once v p h sound is = split_by (split_last p) is
+-- where a path has a parent, one directory begins there
+pub parent_once : (v : Volume) (p : Path) (h : Pair × Name) → IsSound v → parent_of v p ≡ Some h → count_by (begins_at h.0) v.directories ≡ 1
+parent_once v p h sound is = split_by (split_last p) is
   where
     target_by : (s : Path × Name) (e : Entry) (o : Option Pair) → entry_at v s.0 ≡ Some e → target e ≡ o
         → option_map (λ (k : Pair). (k, s.1)) o ≡ Some h → count_by (begins_at h.0) v.directories ≡ 1
@@ -138,28 +138,28 @@ count_splits pair (p ∷ ps) =
 -- ---- the commands
 
 pub set_few : (v : Volume) (p : Path) (f : Attributes → Attributes) → NamesAreOrdered → IsSound v → IsClean v → (h : Option (Pair × Name))
-    → home_of v p ≡ h → marks (thread (set_attributes v f h).directories) ≤ 2
+    → parent_of v p ≡ h → marks (thread (set_attributes v f h).directories) ≤ 2
 set_few v p f ordered sound clean None is = omega (arith, marks_touch_first v.directories, unmarked (thread v.directories) clean)
 set_few v p f ordered sound clean (Some h) is =
     omega (
       arith,
       marks_change v.limits h.0 h.1 (with_entry_attributes f) v.directories ordered (sound_is_good v sound)
-          (home_once v p h sound is),
+          (parent_once v p h sound is),
       unmarked (thread v.directories) clean,
     )
 
 pub put_few : (v : Volume) (p : Path) (body : Body) → NamesAreOrdered → IsSound v → IsClean v
-    → (h : Option (Pair × Name)) (old : Option Entry) → home_of v p ≡ h → marks (thread (put_file v body h old).directories) ≤ 2
+    → (h : Option (Pair × Name)) (old : Option Entry) → parent_of v p ≡ h → marks (thread (put_file v body h old).directories) ≤ 2
 put_few v p body ordered sound clean None old is = omega (arith, unmarked (thread v.directories) clean)
 put_few v p body ordered sound clean (Some h) None is = omega (
   arith,
-  marks_link h.0 (new_entry h.1 body) v.directories (home_once v p h sound is),
+  marks_link h.0 (new_entry h.1 body) v.directories (parent_once v p h sound is),
   unmarked (thread v.directories) clean,
 )
 put_few v p body ordered sound clean (Some h) (Some e) is =
     omega (
       arith,
-      marks_change v.limits h.0 h.1 (with_body body) v.directories ordered (sound_is_good v sound) (home_once v p h sound is),
+      marks_change v.limits h.0 h.1 (with_body body) v.directories ordered (sound_is_good v sound) (parent_once v p h sound is),
       unmarked (thread v.directories) clean,
     )
 
@@ -168,20 +168,20 @@ drop_few None ds few = omega (arith, few)
 drop_few (Some j) ds few = omega (arith, few, marks_drop j ds)
 
 pub remove_few : (v : Volume) (p : Path) → NamesAreOrdered → IsSound v → IsClean v → (h : Option (Pair × Name)) (old : Option Entry)
-    → home_of v p ≡ h → marks (thread (remove_entry v h old).directories) ≤ 2
+    → parent_of v p ≡ h → marks (thread (remove_entry v h old).directories) ≤ 2
 remove_few v p ordered sound clean None old is = omega (arith, unmarked (thread v.directories) clean)
 remove_few v p ordered sound clean (Some h) None is = omega (arith, unmarked (thread v.directories) clean)
 remove_few v p ordered sound clean (Some h) (Some e) is =
     drop_few (target e) (unlink h.0 h.1 v.directories)
     (omega (
       arith,
-      marks_unlink v.limits h.0 h.1 v.directories ordered (sound_is_good v sound) (home_once v p h sound is),
+      marks_unlink v.limits h.0 h.1 v.directories ordered (sound_is_good v sound) (parent_once v p h sound is),
       unmarked (thread v.directories) clean,
     ))
 
 pub move_few : (v : Volume) (p q : Path) → NamesAreOrdered → IsSound v → IsClean v → (from to : Option (Pair × Name)) (old : Option Entry)
-    → home_of v p ≡ from → home_of v q ≡ to → entry_at v p ≡ old
-    → ((h : Pair × Name) (e : Entry) → home_of v p ≡ Some h → entry_at v p ≡ Some e → entry_in v.directories h.0 h.1 ≡ Some e)
+    → parent_of v p ≡ from → parent_of v q ≡ to → entry_at v p ≡ old
+    → ((h : Pair × Name) (e : Entry) → parent_of v p ≡ Some h → entry_at v p ≡ Some e → entry_in v.directories h.0 h.1 ≡ Some e)
     → marks (thread (move_entry v from to old).directories) ≤ 2
 move_few v p q ordered sound clean None to old is goes here there = omega (arith, unmarked (thread v.directories) clean)
 move_few v p q ordered sound clean (Some h) None old is goes here there = omega (arith, unmarked (thread v.directories) clean)
@@ -190,13 +190,13 @@ move_few v p q ordered sound clean (Some h) (Some g) (Some e) is goes here there
     let ds : List Directory = unlink h.0 h.1 v.directories in
     let once : count_by (begins_at g.0) ds ≡ 1 = omega (
       arith,
-      home_once v q g sound goes,
-      (unlink_effect v.limits h.0 h.1 e v.directories ordered (sound_is_good v sound) (home_once v p h sound is)
+      parent_once v q g sound goes,
+      (unlink_effect v.limits h.0 h.1 e v.directories ordered (sound_is_good v sound) (parent_once v p h sound is)
           (there h e is here)).directories g.0,
     ) in
     omega (
       arith,
-      marks_unlink v.limits h.0 h.1 v.directories ordered (sound_is_good v sound) (home_once v p h sound is),
+      marks_unlink v.limits h.0 h.1 v.directories ordered (sound_is_good v sound) (parent_once v p h sound is),
       unmarked (thread v.directories) clean,
       marks_link g.0 (renamed g.1 e) ds once,
     )
@@ -205,14 +205,14 @@ new_part : (pair : Pair) → count_by (λ p. p.dirty && same_pair p.pair pair) (
 new_part pair = rw ((same_pair_decides pair pair).1 refl) refl
 
 make_few : (v : Volume) (p : Path) (s : Supplies) → IsSound v → IsClean v → IsNewPair v s.pair → (h : Option (Pair × Name))
-    → home_of v p ≡ h → length (changed_parts v (make_directory v s.pair h)) ≤ 2
+    → parent_of v p ≡ h → length (changed_parts v (make_directory v s.pair h)) ≤ 2
 make_few v p s sound clean new None is = omega (arith, changed_are_marked v v, unmarked (thread v.directories) clean)
 make_few v p s sound clean new (Some h) is =
     let d : Directory = empty_directory s.pair in
     let e : Entry = new_entry h.1 (Directory_at s.pair) in
     let linked : List Directory = link h.0 e v.directories in
     let ds : List Directory = add_after h.0 d linked in
-    let once = home_once v p h sound is in
+    let once = parent_once v p h sound is in
     let effect = link_effect h.0 e v.directories once in
     let found = add_found h.0 d linked (omega (arith, once, effect.directories h.0))
     (omega (arith, none_begins v s.pair new, effect.directories (key d))) in
@@ -236,27 +236,27 @@ make_few v p s sound clean new (Some h) is =
     one_mark : (pair : Pair) → marks (parts (empty_directory pair)) ≡ 1
     one_mark pair = refl
 
--- the entry at a path is the one under its last name at home
-pub at_home : (v : Volume) (p : Path) → IsPlaced v p → (h : Pair × Name) (e : Entry) → home_of v p ≡ Some h → entry_at v p ≡ Some e
+-- the entry at a path is the one under its last name in the parent
+pub at_parent : (v : Volume) (p : Path) → IsPlaced v p → (h : Pair × Name) (e : Entry) → parent_of v p ≡ Some h → entry_at v p ≡ Some e
     → entry_in v.directories h.0 h.1 ≡ Some e
-at_home v p at h e is here =
-    let same : (at.home.pair, at.home.name) ≡ h = same_Some (at.home.pair, at.home.name) h (sym at.home.home ∙ is) in
+at_parent v p at h e is here =
+    let same : (at.parent.pair, at.parent.name) ≡ h = same_Some (at.parent.pair, at.parent.name) h (sym at.parent.parent ∙ is) in
     subst (λ (x : Pair × Name). entry_in v.directories x.0 x.1 ≡ Some e) same (sym at.edge ∙ here)
 
 pub few_parts_change : NamesAreOrdered → FewPartsChange
 few_parts_change ordered v (Mkdir p) s ok clean = make_few v p s ok.sound clean (record { once = ok.free.once; within = ok.free.within })
-    (home_of v p) refl
+    (parent_of v p) refl
 few_parts_change ordered v (Put p bytes) s ok clean =
     omega (
       arith,
       changed_are_marked v (edited v (Put p bytes) s),
-      put_few v p (new_body v s bytes) ordered ok.sound clean (home_of v p)
+      put_few v p (new_body v s bytes) ordered ok.sound clean (parent_of v p)
           (entry_at v p) refl,
     )
 few_parts_change ordered v (Rm p) s ok clean = omega (
   arith,
   changed_are_marked v (edited v (Rm p) s),
-  remove_few v p ordered ok.sound clean (home_of v p) (entry_at v p) refl,
+  remove_few v p ordered ok.sound clean (parent_of v p) (entry_at v p) refl,
 )
 few_parts_change ordered v (Mv p q) s ok clean =
     let below = first_passes (refuse_if (is_root p || is_root q) IsRoot) _ ok.unrefused in
@@ -266,21 +266,21 @@ few_parts_change ordered v (Mv p q) s ok clean =
     omega (
       arith,
       changed_are_marked v (edited v (Mv p q) s),
-      move_few v p q ordered ok.sound clean (home_of v p) (home_of v q)
-          (entry_at v p) refl refl refl (at_home v p at),
+      move_few v p q ordered ok.sound clean (parent_of v p) (parent_of v q)
+          (entry_at v p) refl refl refl (at_parent v p at),
     )
 few_parts_change ordered v (SetAttr p k value) s ok clean =
     omega (
       arith,
       changed_are_marked v (edited v (SetAttr p k value) s),
-      set_few v p (set_attribute k value) ordered ok.sound clean (home_of v p) refl,
+      set_few v p (set_attribute k value) ordered ok.sound clean (parent_of v p) refl,
     )
 few_parts_change ordered v (RmAttr p k) s ok clean =
     omega (
       arith,
       changed_are_marked v (edited v (RmAttr p k) s),
       set_few v p (remove_attribute k) ordered ok.sound clean
-          (home_of v p) refl,
+          (parent_of v p) refl,
     )
 few_parts_change ordered v (Grow n) s ok clean =
     omega (

@@ -25,7 +25,7 @@ use Rattle.lfs_command.specs.Cut.{runs, more_parts, cut}
 use Rattle.lfs_law.specs.CutWritten.{cut_links, NewPairsAreFresh, CutLinksCanBeWritten, CutLinksCanBeAdded}
 use Rattle.lfs_command.specs.DirectoryEdit.{link_in, touch_last}
 use Rattle.lfs_command.specs.Edited.{new_entry, empty_directory, make_directory, edited}
-use Rattle.lfs_command.specs.Home.{home_of}
+use Rattle.lfs_command.specs.Parent.{parent_of}
 use Rattle.lfs_law.specs.Laws.{CommandsFollow}
 use Rattle.lfs_command.specs.Need.{is_new_to}
 use Rattle.lfs_command.specs.Supplies.{Supplies}
@@ -36,7 +36,7 @@ use Rattle.lfs_law.proofs.CutLinksFit.{by_outline}
 use Rattle.lfs_law.proofs.Cuts.{cut_part, cut_thread, head_by, tail_by}
 use Rattle.lfs_law.proofs.Decided.{same_pair_decides}
 use Rattle.lfs_law.proofs.DirectoryEdits.{keeps_link}
-use Rattle.lfs_law.proofs.Homes.{first_passes, test_passes}
+use Rattle.lfs_law.proofs.Parents.{first_passes, test_passes}
 use Rattle.lfs_law.proofs.InDirectory.{find_here}
 use Rattle.lfs_law.proofs.LeastBlocks.{new_is_supplied}
 use Rattle.lfs_law.proofs.LinksAdded.{first_used}
@@ -81,16 +81,16 @@ added_there k new (e ∷ ds) d found = by (begins_at k e) found (added_there k n
     by true is later = Contains-append_right (parts (touch_last e)) (thread (new ∷ ds)) new.first (contains_first new.first _)
     by false is later = Contains-append_right (parts e) (thread (add_after k new ds)) new.first (later is)
 
-made_there : (v : Volume) (p : Path) (pair : Pair) → IsPlaced v p → Contains (thread (make_directory v pair (home_of v p)).directories)
+made_there : (v : Volume) (p : Path) (pair : Pair) → IsPlaced v p → Contains (thread (make_directory v pair (parent_of v p)).directories)
     (empty_directory pair).first
 made_there v p pair at =
-    let k = at.home.pair in
-    let e : Entry = new_entry at.home.name (Directory_at pair) in
+    let k = at.parent.pair in
+    let e : Entry = new_entry at.parent.name (Directory_at pair) in
     let found = found_one (begins_at k) v.directories at.once in
     let there : find (begins_at k) (link k e v.directories) ≡ Some (link_in e found.0) =
     find_here k (link_in e) v.directories (keeps_link e) ∙ ap (option_map (link_in e)) found.1 in
     subst (λ (h : Option (Pair × Name)). Contains (thread (make_directory v pair h).directories) (empty_directory pair).first)
-    (sym at.home.home)
+    (sym at.parent.parent)
     (added_there k (empty_directory pair) (link k e v.directories) (link_in e found.0) there)
 
 -- two parts of a sound volume that have one pair are one

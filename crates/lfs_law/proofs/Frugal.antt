@@ -11,7 +11,7 @@ use Rattle.lfs_fs.specs.Tree.{entry_at}
 use Rattle.lfs_command.specs.Command.{Mkdir, Put, Rm, Mv, SetAttr, RmAttr, Grow}
 use Rattle.lfs_command.specs.Supplies.{new_body}
 use Rattle.lfs_command.specs.ThreadEdit.{link, unlink, drop_directory}
-use Rattle.lfs_command.specs.Home.{home_of}
+use Rattle.lfs_command.specs.Parent.{parent_of}
 use Rattle.lfs_command.specs.Edited.{with_body, with_entry_attributes, renamed, new_entry, empty_directory, set_attributes, make_directory}
 use Rattle.lfs_command.specs.Edited.{put_file, drop_target, remove_entry, move_entry, edited}
 use Rattle.lfs_command.specs.Cut.{cut}
@@ -62,12 +62,12 @@ move_kept v (Some h) (Some g) (Some e) =
     (unlink_kept h.0 h.1 v.directories) (link_kept g.0 (renamed g.1 e) (unlink h.0 h.1 v.directories))
 
 pub commands_are_frugal : CommandsAreFrugal
-commands_are_frugal v (Mkdir p) s = make_kept v s.pair (home_of v p)
-commands_are_frugal v (Put p bytes) s = put_kept v (new_body v s bytes) (home_of v p) (entry_at v p)
-commands_are_frugal v (Rm p) s = remove_kept v (home_of v p) (entry_at v p)
-commands_are_frugal v (Mv p q) s = move_kept v (home_of v p) (home_of v q) (entry_at v p)
-commands_are_frugal v (SetAttr p k value) s = set_kept v (set_attribute k value) (home_of v p)
-commands_are_frugal v (RmAttr p k) s = set_kept v (remove_attribute k) (home_of v p)
+commands_are_frugal v (Mkdir p) s = make_kept v s.pair (parent_of v p)
+commands_are_frugal v (Put p bytes) s = put_kept v (new_body v s bytes) (parent_of v p) (entry_at v p)
+commands_are_frugal v (Rm p) s = remove_kept v (parent_of v p) (entry_at v p)
+commands_are_frugal v (Mv p q) s = move_kept v (parent_of v p) (parent_of v q) (entry_at v p)
+commands_are_frugal v (SetAttr p k value) s = set_kept v (set_attribute k value) (parent_of v p)
+commands_are_frugal v (RmAttr p k) s = set_kept v (remove_attribute k) (parent_of v p)
 commands_are_frugal v (Grow n) s = touch_first_kept v.directories
 
 pub cuts_are_frugal : CutsAreFrugal

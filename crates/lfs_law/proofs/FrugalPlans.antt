@@ -30,7 +30,7 @@ use Rattle.lfs_command.specs.Planned.{HasOneOf, TakesLeast}
 use Rattle.lfs_law.specs.WrittenLinks.{AreWritten, changed_blocks, number_in}
 use Rattle.lfs_law.specs.PlansHold.{content_blocks, rewritten_blocks, PlansAreFrugal}
 use Rattle.lfs_law.proofs.BlockLemmas.{number_is_one}
-use Rattle.lfs_law.proofs.Homes.{first_passes, test_passes}
+use Rattle.lfs_law.proofs.Parents.{first_passes, test_passes}
 use Rattle.lfs_law.proofs.LinksAdded.{times_cons, times_append}
 use Rattle.lfs_law.proofs.NamedBlocks.{blocks_are_taken}
 use Rattle.lfs_law.proofs.OutlinesWritten.{blocks_outlined}

@@ -9,7 +9,7 @@ use Rattle.lfs_command.specs.Edited.{set_count}
 use Rattle.lfs_command.specs.Accepted.{IsAccepted}
 use Rattle.lfs_law.proofs.Carries.{Carries}
 use Rattle.lfs_law.proofs.CountsGrow.{grows}
-use Rattle.lfs_law.proofs.Homes.{first_passes}
+use Rattle.lfs_law.proofs.Parents.{first_passes}
 use Rattle.lfs_law.proofs.SameEdges.{tree_same}
 use Rattle.lfs_law.proofs.SetFollows.{root_set_follows}
 use Rattle.lfs_law.proofs.TouchFirst.{touch_first_edges, touch_first_effect}

@@ -35,7 +35,7 @@ use Rattle.lfs_meta.specs.LiveBlock.{live_block, live_log, tags_of, stored_part_
 use Rattle.lfs_meta.specs.Name.{Name}
 use Rattle.lfs_meta.specs.Part.{RawPart, StoredPart, empty_part}
 use Rattle.lfs_meta.specs.Replay.{acted, step_by, step, replay_from, replay, at_entry, up_to, named_by, embodied_by, attributed_by}
-use Rattle.lfs_meta.specs.Whole.{kind_takes_body, kind_takes_name, whole_by, whole, all_whole, whole_part}
+use Rattle.lfs_meta.specs.Complete.{kind_takes_body, kind_takes_name, complete_by, complete, all_complete, complete_part}
 use Rattle.lfs_meta.proofs.HeldPartLemmas.{block_bytes, same_tags}
 use Rattle.lfs_block.proofs.BlockLens.{length-block}
 
@@ -195,7 +195,7 @@ empty_has : PartHas empty_part
 unfolding empty_part
 empty_has = All-nil RawHas
 
--- ---- whole entries
+-- ---- complete entries
 
 abbrev pub StoredHas : StoredEntry → Type 0
 StoredHas e = ContentHas e.body
@@ -205,29 +205,29 @@ when_both true true x w e = cc
 when_both true false x w e = cc
 when_both false u x w e = cc
 
-whole_has : (n : Option (Kind × Name)) (b : Option StoredBody) (attributes : Attributes) (w : StoredEntry) → IfSome b ContentHas
-    → whole_by n b attributes ≡ Some w → StoredHas w
-whole_has None b attributes w has is = cc
-whole_has (Some n) None attributes w has is = cc
-whole_has (Some n) (Some b) attributes w has is =
+complete_has : (n : Option (Kind × Name)) (b : Option StoredBody) (attributes : Attributes) (w : StoredEntry) → IfSome b ContentHas
+    → complete_by n b attributes ≡ Some w → StoredHas w
+complete_has None b attributes w has is = cc
+complete_has (Some n) None attributes w has is = cc
+complete_has (Some n) (Some b) attributes w has is =
     let x : StoredEntry = record { kind = n.0; name = n.1; body = b; attributes = attributes } in
     subst StoredHas (when_both (kind_takes_body n.0 b) (kind_takes_name n.0 n.1) x w is) has
 
-by_first : (e : RawEntry) (o : Option StoredEntry) (os : Option (List StoredEntry)) (ws : List StoredEntry) → RawHas e → whole e ≡ o
+by_first : (e : RawEntry) (o : Option StoredEntry) (os : Option (List StoredEntry)) (ws : List StoredEntry) → RawHas e → complete e ≡ o
     → option_and_then (λ w. option_map (λ vs. w ∷ vs) os) o ≡ Some ws → ((vs : List StoredEntry) → os ≡ Some vs → All StoredHas vs)
     → All StoredHas ws
 by_first e None os ws has is all later = cc
 by_first e (Some w) None ws has is all later = cc
 by_first e (Some w) (Some vs) ws has is all later =
     let same : w ∷ vs ≡ ws = cc in
-    subst (All StoredHas) same (All-cons StoredHas w vs (whole_has e.name e.body e.attributes w has is) (later vs refl))
+    subst (All StoredHas) same (All-cons StoredHas w vs (complete_has e.name e.body e.attributes w has is) (later vs refl))
 
-all_have : (es : List RawEntry) (ws : List StoredEntry) → All RawHas es → all_whole es ≡ Some ws → All StoredHas ws
+all_have : (es : List RawEntry) (ws : List StoredEntry) → All RawHas es → all_complete es ≡ Some ws → All StoredHas ws
 all_have [] ws have all = let none : [] ≡ ws = cc in subst (All StoredHas) none (All-nil StoredHas)
-all_have (e ∷ es) ws have all = by_first e (whole e) (all_whole es) ws (All-head RawHas e es have) refl all
+all_have (e ∷ es) ws have all = by_first e (complete e) (all_complete es) ws (All-head RawHas e es have) refl all
     (λ vs. all_have es vs (All-tail RawHas e es have))
 
-by_part : (p : RawPart) (o : Option (List StoredEntry)) (s : StoredPart) → PartHas p → all_whole p.entries ≡ o
+by_part : (p : RawPart) (o : Option (List StoredEntry)) (s : StoredPart) → PartHas p → all_complete p.entries ≡ o
     → option_map (λ (es : List StoredEntry). let q : StoredPart = record { entries = es; tail = p.tail; delta = p.delta } in q) o ≡ Some s
     → All StoredHas s.entries
 by_part p None s has is some' = cc
@@ -240,12 +240,12 @@ pub held_have : LiveBlocksAreRead → BlocksHaveALog → (d : Disk) (pair : Pair
     → pair.1 < d.count
     → stored_part_of d pair ≡ Some s → All StoredHas s.entries
 held_have read logs d pair s disk first second is =
-    option_and_then_some whole_part (option_and_then replay (tags_of d pair)) s is
-    (λ p there whole_is. option_and_then_some replay (tags_of d pair) p there
-    (λ tags tags_are replayed. by_part p (all_whole p.entries) s
+    option_and_then_some complete_part (option_and_then replay (tags_of d pair)) s is
+    (λ p there complete_is. option_and_then_some replay (tags_of d pair) p there
+    (λ tags tags_are replayed. by_part p (all_complete p.entries) s
     (replay_has empty_part p tags replayed (live_has logs d pair (live_block (block_of d pair.0) (block_of d pair.1)) tags disk first second
     (read (block_of d pair.0) (block_of d pair.1)) tags_are) empty_has)
-    refl whole_is))
+    refl complete_is))
 
 -- ---- words
 

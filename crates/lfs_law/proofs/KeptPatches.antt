@@ -29,7 +29,7 @@ at_behind d n behind = let test : nat_lt n d.count ≡ false = grind (arith, nat
 
 change_in : (d : Disk) (c : Change) → CanBeMade d c → IsChangeIn d.size d.count d.count c
 change_in d c made = record {
-  whole = made.whole;
+  complete = made.complete;
   within = omega (arith, made.stands.0);
   old = λ behind. absurd (omega (arith, behind, made.stands.0));
   new = λ behind. absurd (omega (arith, behind, made.stands.0));
@@ -74,7 +74,7 @@ grown_patch size before after cs = record { size = size; before = before; after 
 
 grown_change : (d : Disk) (n : ℕ) (c : Change) → IsDisk d → d.count ≤ n → CanBeMade (resized n d) c → IsChangeIn d.size d.count n c
 grown_change d n c disk more made = record {
-  whole = made.whole;
+  complete = made.complete;
   within = omega (arith, made.stands.0, more);
   old = λ behind. sym made.stands.1 ∙ resized-block d n c.number disk made.stands.0 ∙ at_behind d c.number behind;
   new = λ behind. absurd (omega (arith, behind, made.stands.0));

@@ -19,7 +19,7 @@ use Rattle.lfs_command.specs.DirectoryEdit.{link_in, unlink_in, change_in, touch
 use Rattle.lfs_command.specs.ThreadEdit.{link, unlink, change, add_after, take_out, drop_directory, touch_first}
 use Rattle.lfs_command.specs.Command.{Command, Mkdir, Put, Rm, Mv, SetAttr, RmAttr, Grow}
 use Rattle.lfs_command.specs.Supplies.{Supplies, new_body}
-use Rattle.lfs_command.specs.Home.{home_of}
+use Rattle.lfs_command.specs.Parent.{parent_of}
 use Rattle.lfs_command.specs.Edited.{with_body, with_entry_attributes, renamed, new_entry, empty_directory, set_attributes, make_directory}
 use Rattle.lfs_command.specs.Edited.{put_file, drop_target, remove_entry, move_entry, edited}
 use Rattle.lfs_command.specs.Cut.{cut, HasEnough}
@@ -174,13 +174,13 @@ OfNew P v (Grow n) s = Unit {0}
 pub edited_bodies : (P : Body → Type 0) (v : Volume) (c : Command) (s : Supplies) → ((pair : Pair) → P (Directory_at pair)) → OfNew P v c s
     → Bodies P v.directories
     → Bodies P (edited v c s).directories
-edited_bodies P v (Mkdir p) s leads new all = make_bodies P v s.pair (home_of v p) (leads s.pair) all
-edited_bodies P v (Put p bytes) s leads new all = put_bodies P v (new_body v s bytes) (home_of v p) (entry_at v p) new all
-edited_bodies P v (Rm p) s leads new all = remove_bodies P v (home_of v p) (entry_at v p) all
-edited_bodies P v (Mv p q) s leads new all = move_bodies P v (home_of v p) (home_of v q) (entry_at v p)
+edited_bodies P v (Mkdir p) s leads new all = make_bodies P v s.pair (parent_of v p) (leads s.pair) all
+edited_bodies P v (Put p bytes) s leads new all = put_bodies P v (new_body v s bytes) (parent_of v p) (entry_at v p) new all
+edited_bodies P v (Rm p) s leads new all = remove_bodies P v (parent_of v p) (entry_at v p) all
+edited_bodies P v (Mv p q) s leads new all = move_bodies P v (parent_of v p) (parent_of v q) (entry_at v p)
     (λ e at. body_at P v p e (leads root) all at) all
-edited_bodies P v (SetAttr p k value) s leads new all = set_bodies P v (set_attribute k value) (home_of v p) all
-edited_bodies P v (RmAttr p k) s leads new all = set_bodies P v (remove_attribute k) (home_of v p) all
+edited_bodies P v (SetAttr p k value) s leads new all = set_bodies P v (set_attribute k value) (parent_of v p) all
+edited_bodies P v (RmAttr p k) s leads new all = set_bodies P v (remove_attribute k) (parent_of v p) all
 edited_bodies P v (Grow n) s leads new all = set_bodies P v (λ a. a) None all
 
 pub cut_bodies : RunsJoin Entry → (P : Body → Type 0) (chosen : Part → List Pair) (w : Volume)

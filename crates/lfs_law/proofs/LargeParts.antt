@@ -16,7 +16,7 @@ use Rattle.lfs_command.specs.DirectoryEdit.{link_in, change_in, touch_last}
 use Rattle.lfs_command.specs.ThreadEdit.{link, change, add_after}
 use Rattle.lfs_command.specs.Command.{Mkdir, Put, Rm, Mv, SetAttr, RmAttr, Grow}
 use Rattle.lfs_command.specs.Supplies.{nothing, new_body}
-use Rattle.lfs_command.specs.Home.{home_of}
+use Rattle.lfs_command.specs.Parent.{parent_of}
 use Rattle.lfs_command.specs.Edited.{with_directories, with_body, new_entry, empty_directory, make_directory, put_file}
 use Rattle.lfs_command.specs.Cut.{room, is_first}
 use Rattle.lfs_command.specs.Verdict.{is_too_large}
@@ -140,8 +140,8 @@ make_large v p q p_other q_other (Some h) =
     v.directories))
 
 pub large_is_the_same : LargeIsTheSame
-large_is_the_same v (Mkdir p) s other = make_large v nothing.pair s.pair refl other (home_of v p)
-large_is_the_same v (Put p bytes) s other = put_large v (new_body v nothing bytes) (new_body v s bytes) (put_body v s bytes) (home_of v p)
+large_is_the_same v (Mkdir p) s other = make_large v nothing.pair s.pair refl other (parent_of v p)
+large_is_the_same v (Put p bytes) s other = put_large v (new_body v nothing bytes) (new_body v s bytes) (put_body v s bytes) (parent_of v p)
     (entry_at v p)
 large_is_the_same v (Rm p) s other = refl
 large_is_the_same v (Mv p q) s other = refl

@@ -17,7 +17,7 @@ pub mod DropDirectory
 pub mod TouchFirst
 pub mod Marks
 pub mod SoundAfter
-pub mod Homes
+pub mod Parents
 pub mod Cuts
 pub mod KeptLinks
 pub mod CutLinks
@@ -74,7 +74,7 @@ pub mod LeastTaken
 pub mod OutlinesCarried
 pub mod TablesTell
 pub mod FreeAfterHeld
-pub mod HomeSteps
+pub mod ParentSteps
 pub mod EntriesThere
 pub mod RunsFit
 pub mod PartsFit

@@ -11,13 +11,13 @@ use Rattle.lfs_block.specs.Disk.{Disk}
 use Rattle.lfs_meta.specs.Body.{Pair}
 use Rattle.lfs_command.specs.PartWritten.{FirstIsFilled}
 use Rattle.lfs_meta.specs.Part.{StoredPart}
-use Rattle.lfs_commit.specs.Writing.{part_in}
+use Rattle.lfs_pair.specs.Writing.{part_in}
 use Rattle.lfs_fs.specs.Directory.{Part}
 use Rattle.lfs_fs.specs.Thread.{Link}
 use Rattle.lfs_fs.specs.Uses.{times, pair_uses}
 use Rattle.lfs_fs.proofs.ContainsLemmas.{contains_none, contains_cases, contains_first, contains_later}
 use Rattle.lfs_fs.proofs.CountLemmas.{element_le}
-use Rattle.lfs_commit.specs.Difference.{Forced}
+use Rattle.lfs_pair.specs.Difference.{Forced}
 use Rattle.lfs_command.specs.PairChanged.{beside, pair_number}
 use Rattle.lfs_law.specs.WrittenLinks.{changed_blocks, block_after, part_after, number_in, written_blocks, set_blocks, links_blocks, set_uses}
 use Rattle.lfs_law.specs.WrittenLinks.{link_part, FillsFirst, IsPairWritten, MakesLink}

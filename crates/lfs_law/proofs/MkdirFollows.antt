@@ -20,7 +20,7 @@ use Rattle.lfs_fs.specs.Named.{leads_to}
 use Rattle.lfs_fs.specs.Sound.{IsSound, IsProper}
 use Rattle.lfs_command.specs.PathMap.{put_at_path}
 use Rattle.lfs_command.specs.ThreadEdit.{link, add_after}
-use Rattle.lfs_command.specs.Home.{home_of}
+use Rattle.lfs_command.specs.Parent.{parent_of}
 use Rattle.lfs_command.specs.Edited.{with_directories, new_entry, empty_directory, make_directory}
 use Rattle.lfs_law.proofs.Effect.{Effect, none, of_entry, of_directory, of_both, in_a_row}
 use Rattle.lfs_law.proofs.OneElement.{none_counted}
@@ -78,36 +78,36 @@ nothing_in ds k m h = ap (option_and_then (λ (d : Directory). find (is_named m)
 -- ---- the command
 
 pub mkdir_follows : (v : Volume) (p : Path) (pair : Pair) → NamesAreOrdered → IsSound v → (at : IsPlaced v p) → entry_at v p ≡ None
-    → length at.home.name ≤ v.limits.name → IsNewPair v pair
-    → Puts v (make_directory v pair (home_of v p)) p (Some (Dir [])) (λ b. 0) (λ b. times b (pair.0 ∷ pair.1 ∷ []))
+    → length at.parent.name ≤ v.limits.name → IsNewPair v pair
+    → Puts v (make_directory v pair (parent_of v p)) p (Some (Dir [])) (λ b. 0) (λ b. times b (pair.0 ∷ pair.1 ∷ []))
 mkdir_follows v p pair ordered sound at fresh fits new =
-    let k = at.home.pair in
-    let n = at.home.name in
+    let k = at.parent.pair in
+    let n = at.parent.name in
     let e : Entry = new_entry n (Directory_at pair) in
     let d : Directory = empty_directory pair in
     let edge : entry_in v.directories k n ≡ None = sym at.edge ∙ fresh in
-    let old : entry_at v (at.home.front ++ n ∷ []) ≡ None = ap (entry_at v) (sym at.home.whole) ∙ fresh in
-    let proper : IsProper v.limits e = record { name = at.home.named; name_fits = fits; file_fits = omega arith; attributes = tt } in
+    let old : entry_at v (at.parent.front ++ n ∷ []) ≡ None = ap (entry_at v) (sym at.parent.complete) ∙ fresh in
+    let proper : IsProper v.limits e = record { name = at.parent.named; name_fits = fits; file_fits = omega arith; attributes = tt } in
     let linked : List Directory = link k e v.directories in
     let first : Effect none (of_entry e) v.directories linked = link_effect k e v.directories at.once in
     let once : count_by (begins_at k) linked ≡ 1 = omega (arith, first.directories k, at.once) in
     let none_there : count_by (begins_at (key d)) linked ≡ 0 = omega (arith, first.directories (key d), none_begins v pair new) in
     let second : Effect none (of_directory d) linked (add_after k d linked) = add_effect k d linked once refl in
     let ds : List Directory = add_after k d linked in
-    let one : OneEdge v (with_directories v ds) at.home.front k n (Some e) = record {
+    let one : OneEdge v (with_directories v ds) at.parent.front k n (Some e) = record {
       sound = sound;
-      holder = at.home.above;
-      holder_at = at.home.at;
-      holder_leads = at.home.leads;
+      holder = at.parent.above;
+      holder_at = at.parent.at;
+      holder_leads = at.parent.leads;
       attributes = refl;
       edge = add_edges k d linked refl none_there k n ∙ link_edge k e v.directories at.once edge;
       others = λ j m other. add_edges k d linked refl none_there j m ∙ link_other k e v.directories j m other;
     } in
-    let alike : Alike v (with_directories v ds) (entry_at v (at.home.front ++ n ∷ [])) (Some e) = λ m.
+    let alike : Alike v (with_directories v ds) (entry_at v (at.parent.front ++ n ∷ [])) (Some e) = λ m.
     add_edges k d linked refl none_there (key d) m ∙ nothing_in linked (key d) m none_there
     ∙ sym (ap (step target (entry_in v.directories) m) old) in
     let follows : Puts v (with_directories v ds) p (Some (Dir [])) (λ b. 0) (λ b. times b (pair.0 ∷ pair.1 ∷ [])) = record {
-      sound = edge_sound v ds at.home.front k n (Some e) (of_both none none) (of_both (of_entry e) (of_directory d)) one alike
+      sound = edge_sound v ds at.parent.front k n (Some e) (of_both none none) (of_both (of_entry e) (of_directory d)) one alike
           (in_a_row none (of_entry e) none (of_directory d) v.directories linked ds first second)
           (add_good v.limits k d linked refl (link_good v.limits k e v.directories ordered (sound_is_good v sound) at.once edge proper))
           (record {
@@ -121,7 +121,7 @@ mkdir_follows v p pair ordered sound at fresh fits new =
       uses = λ b. omega (arith, first.uses b, second.uses b, empty_uses b pair);
       at = λ q.
           tree_after one alike q
-          ∙ ap (λ (x : Path). put_at_path x (Some (node e)) (tree v) q) (sym at.home.whole);
+          ∙ ap (λ (x : Path). put_at_path x (Some (node e)) (tree v) q) (sym at.parent.complete);
     } in
     subst (λ (h : Option (Pair × Name)). Puts v (make_directory v pair h) p (Some (Dir [])) (λ b. 0) (λ b. times b (pair.0 ∷ pair.1 ∷ [])))
-    (sym at.home.home) follows
+    (sym at.parent.parent) follows

@@ -17,7 +17,7 @@ use Rattle.lfs_fs.specs.Uses.{uses}
 use Rattle.lfs_fs.specs.Sound.{IsSound, IsProper}
 use Rattle.lfs_command.specs.PathMap.{below, moved}
 use Rattle.lfs_command.specs.ThreadEdit.{link, unlink}
-use Rattle.lfs_command.specs.Home.{home_of}
+use Rattle.lfs_command.specs.Parent.{parent_of}
 use Rattle.lfs_command.specs.Edited.{with_directories, renamed, move_entry}
 use Rattle.lfs_command.specs.Verdict.{lies_below}
 use Rattle.lfs_law.proofs.Effect.{Effect, AreGood, none, of_entry, of_both, in_a_row}
@@ -55,13 +55,13 @@ apart ds k j n m e one none both = none-some e (sym none ∙ ap (λ (x : Pair). 
 
 pub mv_follows : (v : Volume) (p q : Path) (e : Entry) → NamesAreOrdered → IsSound v → (from : IsPlaced v p) → (to : IsPlaced v q)
     → entry_at v p ≡ Some e
-    → entry_at v q ≡ None → lies_below p q ≡ false → length to.home.name ≤ v.limits.name
-    → Moves v (move_entry v (home_of v p) (home_of v q) (Some e)) p q
+    → entry_at v q ≡ None → lies_below p q ≡ false → length to.parent.name ≤ v.limits.name
+    → Moves v (move_entry v (parent_of v p) (parent_of v q) (Some e)) p q
 mv_follows v p q e ordered sound from to here free off fits =
-    let k = from.home.pair in
-    let n = from.home.name in
-    let j = to.home.pair in
-    let m = to.home.name in
+    let k = from.parent.pair in
+    let n = from.parent.name in
+    let j = to.parent.pair in
+    let m = to.parent.name in
     let x : Entry = renamed m e in
     let edge : entry_in v.directories k n ≡ Some e = sym from.edge ∙ here in
     let no_edge : entry_in v.directories j m ≡ None = sym to.edge ∙ free in
@@ -73,7 +73,7 @@ mv_follows v p q e ordered sound from to here free off fits =
     let fresh : entry_in unlinked j m ≡ None = unlink_other k n v.directories j m (λ both. two (sym both.0, sym both.1)) ∙ no_edge in
     let was : IsProper v.limits e = proper_entry v sound k n e edge in
     let proper : IsProper v.limits x = record {
-      name = to.home.named;
+      name = to.parent.named;
       name_fits = fits;
       file_fits = was.file_fits;
       attributes = was.attributes;
@@ -81,17 +81,17 @@ mv_follows v p q e ordered sound from to here free off fits =
     let ds : List Directory = link j x unlinked in
     let w : Volume = with_directories v ds in
     let second : Effect none (of_entry x) unlinked ds = link_effect j x unlinked once in
-    let moves : MovedEdge v w from.home.front to.home.front k j n m e x = record {
+    let moves : MovedEdge v w from.parent.front to.parent.front k j n m e x = record {
       sound = sound;
-      holder = from.home.above;
-      holder_at = from.home.at;
-      holder_leads = from.home.leads;
-      taker = to.home.above;
-      taker_at = to.home.at;
-      taker_leads = to.home.leads;
-      from = ap (entry_at v) (sym from.home.whole) ∙ here;
-      to = ap (entry_at v) (sym to.home.whole) ∙ free;
-      outside = ap (λ (y : Path). below y (to.home.front ++ m ∷ [])) (sym from.home.whole) ∙ ap (below p) (sym to.home.whole)
+      holder = from.parent.above;
+      holder_at = from.parent.at;
+      holder_leads = from.parent.leads;
+      taker = to.parent.above;
+      taker_at = to.parent.at;
+      taker_leads = to.parent.leads;
+      from = ap (entry_at v) (sym from.parent.complete) ∙ here;
+      to = ap (entry_at v) (sym to.parent.complete) ∙ free;
+      outside = ap (λ (y : Path). below y (to.parent.front ++ m ∷ [])) (sym from.parent.complete) ∙ ap (below p) (sym to.parent.complete)
           ∙ outside v p q e here free off;
       attributes = refl;
       gone = link_other j x unlinked k n two ∙ unlink_edge k n v.directories;
@@ -116,8 +116,8 @@ mv_follows v p q e ordered sound from to here free off fits =
       uses = λ b. omega (arith, first.uses b, second.uses b);
       at = λ path.
           tree_moved moves path
-          ∙ ap (λ (y : Path). moved y (to.home.front ++ m ∷ []) (tree v) path) (sym from.home.whole)
-          ∙ ap (λ (y : Path). moved p y (tree v) path) (sym to.home.whole);
+          ∙ ap (λ (y : Path). moved y (to.parent.front ++ m ∷ []) (tree v) path) (sym from.parent.complete)
+          ∙ ap (λ (y : Path). moved p y (tree v) path) (sym to.parent.complete);
     } in
-    subst (λ (h : Option (Pair × Name)). Moves v (move_entry v h (home_of v q) (Some e)) p q) (sym from.home.home)
-    (subst (λ (h : Option (Pair × Name)). Moves v (move_entry v (Some (k, n)) h (Some e)) p q) (sym to.home.home) follows)
+    subst (λ (h : Option (Pair × Name)). Moves v (move_entry v h (parent_of v q) (Some e)) p q) (sym from.parent.parent)
+    (subst (λ (h : Option (Pair × Name)). Moves v (move_entry v (Some (k, n)) h (Some e)) p q) (sym to.parent.parent) follows)

@@ -27,7 +27,7 @@ use Rattle.lfs_command.specs.DirectoryEdit.{link_in, touch_last}
 use Rattle.lfs_command.specs.ThreadEdit.{link, add_after}
 use Rattle.lfs_command.specs.Command.{Command, Mkdir, Put, Rm, Mv, SetAttr, RmAttr, Grow}
 use Rattle.lfs_command.specs.Supplies.{Supplies, most_inline, supply_uses}
-use Rattle.lfs_command.specs.Home.{home_of}
+use Rattle.lfs_command.specs.Parent.{parent_of}
 use Rattle.lfs_command.specs.Edited.{new_entry, empty_directory, make_directory, edited}
 use Rattle.lfs_command.specs.Cut.{runs, more_parts, cut, new_pairs, HasEnough, new_pair_uses}
 use Rattle.lfs_command.specs.Verdict.{refuse_if, walk_refusal, is_root}
@@ -37,7 +37,7 @@ use Rattle.lfs_command.specs.Need.{is_new_to}
 use Rattle.lfs_law.specs.PlansHold.{content_blocks, BlocksAreWrittenOnce, BlocksAreTaken}
 use Rattle.lfs_law.proofs.Cuts.{cut_part, pair_times, pairs_for, head_by, tail_by, all_uses, cut_thread}
 use Rattle.lfs_law.proofs.DirectoryEdits.{keeps_link}
-use Rattle.lfs_law.proofs.Homes.{first_passes, test_passes}
+use Rattle.lfs_law.proofs.Parents.{first_passes, test_passes}
 use Rattle.lfs_law.proofs.InDirectory.{find_here}
 use Rattle.lfs_law.proofs.LinksAdded.{times_cons, times_append, first_used, one_use, set_is}
 use Rattle.lfs_law.proofs.OneElement.{found_one}
@@ -145,16 +145,16 @@ bare_alone : (g : Pair → ℕ) (pair : Pair) → set_total g (parts (empty_dire
 bare_alone g pair = omega (arith, sum_by-cons (λ (p : Part). if p.dirty then g p.pair else 0) (empty_directory pair).first [])
 
 made_alone : (v : Volume) (p : Path) (pair : Pair) (n : ℕ) → IsPlaced v p
-    → set_total (new_times v n) (thread (make_directory v pair (home_of v p)).directories) ≡ new_times v n pair
+    → set_total (new_times v n) (thread (make_directory v pair (parent_of v p)).directories) ≡ new_times v n pair
 made_alone v p pair n at =
-    let k = at.home.pair in
-    let e : Entry = new_entry at.home.name (Directory_at pair) in
+    let k = at.parent.pair in
+    let e : Entry = new_entry at.parent.name (Directory_at pair) in
     let found = found_one (begins_at k) v.directories at.once in
     let there : find (begins_at k) (link k e v.directories) ≡ Some (link_in e found.0) =
     find_here k (link_in e) v.directories (keeps_link e) ∙ ap (option_map (link_in e)) found.1 in
     let none : total (new_times v n) (link k e v.directories) ≡ 0 = link_total (new_times v n) k e v.directories ∙ no_new_pairs v n in
     subst (λ (h : Option (Pair × Name)). set_total (new_times v n) (thread (make_directory v pair h).directories) ≡ new_times v n pair)
-    (sym at.home.home)
+    (sym at.parent.parent)
     (added_alone (new_times v n) k (empty_directory pair) (link k e v.directories) (link_in e found.0) there none
     ∙ bare_alone (new_times v n) pair)
 

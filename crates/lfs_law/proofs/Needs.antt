@@ -24,7 +24,7 @@ use Rattle.lfs_command.specs.DirectoryEdit.{touch, has_name, change_in, behind, 
 use Rattle.lfs_command.specs.ThreadEdit.{in_directory, link, change, add_after}
 use Rattle.lfs_command.specs.Command.{Command, Mkdir, Put, Rm, Mv, SetAttr, RmAttr, Grow}
 use Rattle.lfs_command.specs.Supplies.{Supplies, nothing, most_inline, new_body}
-use Rattle.lfs_command.specs.Home.{home_of}
+use Rattle.lfs_command.specs.Parent.{parent_of}
 use Rattle.lfs_command.specs.Edited.{with_directories, with_body, new_entry, empty_directory, make_directory, put_file, edited}
 use Rattle.lfs_command.specs.Cut.{room, is_first, runs, new_pairs, HasEnough}
 use Rattle.lfs_command.specs.Need.{dirty_parts, data_blocks, directory_blocks, part_blocks}
@@ -327,8 +327,8 @@ make_need follow v p q (Some h) =
 
 edited_need : RunsFollowWeights Entry ℕ → (v : Volume) (c : Command) (s : Supplies)
     → dirty_need (edited v c nothing) ≡ dirty_need (edited v c s)
-edited_need follow v (Mkdir p) s = make_need follow v nothing.pair s.pair (home_of v p)
-edited_need follow v (Put p bytes) s = put_need follow v (new_body v nothing bytes) (new_body v s bytes) (put_body v s bytes) (home_of v p)
+edited_need follow v (Mkdir p) s = make_need follow v nothing.pair s.pair (parent_of v p)
+edited_need follow v (Put p bytes) s = put_need follow v (new_body v nothing bytes) (new_body v s bytes) (put_body v s bytes) (parent_of v p)
     (entry_at v p)
 edited_need follow v (Rm p) s = refl
 edited_need follow v (Mv p q) s = refl

@@ -27,7 +27,7 @@ use Rattle.lfs_command.specs.DirectoryEdit.{absorb_in, absorb, taking_up}
 use Rattle.lfs_command.specs.ThreadEdit.{in_directory, link, unlink, change, add_after, take_out, touch_first}
 use Rattle.lfs_command.specs.Command.{Command, Mkdir, Put, Rm, Mv, SetAttr, RmAttr, Grow}
 use Rattle.lfs_command.specs.Supplies.{nothing, most_inline, new_body}
-use Rattle.lfs_command.specs.Home.{home_of}
+use Rattle.lfs_command.specs.Parent.{parent_of}
 use Rattle.lfs_command.specs.Edited.{with_body, with_entry_attributes, renamed, new_entry, empty_directory, set_attributes, make_directory}
 use Rattle.lfs_command.specs.Edited.{put_file, drop_target, remove_entry, move_entry, edited}
 use Rattle.lfs_command.specs.Clean.{IsClean}
@@ -36,9 +36,9 @@ use Rattle.lfs_command.specs.Need.{data_blocks, directory_blocks, part_blocks}
 use Rattle.lfs_law.specs.NeedsSmall.{NeedsAreSmall}
 use Rattle.lfs_command.specs.declared.refusal.Refusal.TheVariants.{IsRoot, IsADirectory, NameTooLong, FileTooLarge}
 use Rattle.lfs_command.specs.Verdict.{refuse_if, first_refusal, checks, walk_refusal, is_root, is_directory, last_length}
-use Rattle.lfs_law.proofs.EntriesThere.{stands_at_home}
-use Rattle.lfs_law.proofs.FewParts.{home_once, unmarked, set_few, put_few, remove_few, move_few}
-use Rattle.lfs_law.proofs.Homes.{first_passes, test_passes}
+use Rattle.lfs_law.proofs.EntriesThere.{stands_at_parent}
+use Rattle.lfs_law.proofs.FewParts.{parent_once, unmarked, set_few, put_few, remove_few, move_few}
+use Rattle.lfs_law.proofs.Parents.{first_passes, test_passes}
 use Rattle.lfs_law.proofs.Marks.{marks, marks_link, marks_add_after, marks_touch_first}
 use Rattle.lfs_law.proofs.RunCounts.{length_by}
 
@@ -318,16 +318,16 @@ move_entries m v (Some h) (Some g) (Some e) few = all_link m g.0 (renamed g.1 e)
     (all_unlink m h.0 h.1 v.directories few)
 
 edited_entries : (m : ℕ) (v : Volume) (c : Command) → AreFew m v.directories → AreFew (m + 1) (edited v c nothing).directories
-edited_entries m v (Mkdir p) few = make_entries m v nothing.pair (home_of v p) few
-edited_entries m v (Put p bytes) few = put_entries m v (new_body v nothing bytes) (home_of v p) (entry_at v p) few
-edited_entries m v (Rm p) few = remove_entries m v (home_of v p) (entry_at v p) few
-edited_entries m v (Mv p q) few = move_entries m v (home_of v p) (home_of v q) (entry_at v p) few
-edited_entries m v (SetAttr p k value) few = set_entries m v (set_attribute k value) (home_of v p) few
-edited_entries m v (RmAttr p k) few = set_entries m v (remove_attribute k) (home_of v p) few
+edited_entries m v (Mkdir p) few = make_entries m v nothing.pair (parent_of v p) few
+edited_entries m v (Put p bytes) few = put_entries m v (new_body v nothing bytes) (parent_of v p) (entry_at v p) few
+edited_entries m v (Rm p) few = remove_entries m v (parent_of v p) (entry_at v p) few
+edited_entries m v (Mv p q) few = move_entries m v (parent_of v p) (parent_of v q) (entry_at v p) few
+edited_entries m v (SetAttr p k value) few = set_entries m v (set_attribute k value) (parent_of v p) few
+edited_entries m v (RmAttr p k) few = set_entries m v (remove_attribute k) (parent_of v p) few
 edited_entries m v (Grow n) few = set_entries m v (λ a. a) None few
 
 -- a new directory's part is the third one
-make_marks : (v : Volume) (p : Path) (pair : Pair) → IsSound v → IsClean v → (h : Option (Pair × Name)) → home_of v p ≡ h
+make_marks : (v : Volume) (p : Path) (pair : Pair) → IsSound v → IsClean v → (h : Option (Pair × Name)) → parent_of v p ≡ h
     → marks (thread (make_directory v pair h).directories) ≤ 3
 make_marks v p pair sound clean None is = omega (arith, unmarked (thread v.directories) clean)
 make_marks v p pair sound clean (Some h) is =
@@ -336,30 +336,30 @@ make_marks v p pair sound clean (Some h) is =
     omega (
       arith,
       marks_add_after h.0 (empty_directory pair) (link h.0 e v.directories),
-      marks_link h.0 e v.directories (home_once v p h sound is),
+      marks_link h.0 e v.directories (parent_once v p h sound is),
       unmarked (thread v.directories) clean,
       one,
     )
 
 edited_marks : NamesAreOrdered → (v : Volume) (c : Command) → IsSound v → IsClean v → marks (thread (edited v c nothing).directories) ≤ 3
-edited_marks ordered v (Mkdir p) sound clean = make_marks v p nothing.pair sound clean (home_of v p) refl
+edited_marks ordered v (Mkdir p) sound clean = make_marks v p nothing.pair sound clean (parent_of v p) refl
 edited_marks ordered v (Put p bytes) sound clean = omega (
   arith,
-  put_few v p (new_body v nothing bytes) ordered sound clean (home_of v p)
+  put_few v p (new_body v nothing bytes) ordered sound clean (parent_of v p)
       (entry_at v p) refl,
 )
-edited_marks ordered v (Rm p) sound clean = omega (arith, remove_few v p ordered sound clean (home_of v p) (entry_at v p) refl)
+edited_marks ordered v (Rm p) sound clean = omega (arith, remove_few v p ordered sound clean (parent_of v p) (entry_at v p) refl)
 edited_marks ordered v (Mv p q) sound clean =
     omega (
       arith,
-      move_few v p q ordered sound clean (home_of v p) (home_of v q) (entry_at v p) refl refl refl
-          (λ h e is here. sym (stands_at_home v p h.0 h.1 is) ∙ here),
+      move_few v p q ordered sound clean (parent_of v p) (parent_of v q) (entry_at v p) refl refl refl
+          (λ h e is here. sym (stands_at_parent v p h.0 h.1 is) ∙ here),
     )
 edited_marks ordered v (SetAttr p k value) sound clean = omega (
   arith,
-  set_few v p (set_attribute k value) ordered sound clean (home_of v p) refl,
+  set_few v p (set_attribute k value) ordered sound clean (parent_of v p) refl,
 )
-edited_marks ordered v (RmAttr p k) sound clean = omega (arith, set_few v p (remove_attribute k) ordered sound clean (home_of v p) refl)
+edited_marks ordered v (RmAttr p k) sound clean = omega (arith, set_few v p (remove_attribute k) ordered sound clean (parent_of v p) refl)
 edited_marks ordered v (Grow n) sound clean = omega (arith, marks_touch_first v.directories, unmarked (thread v.directories) clean)
 
 -- ---- the sum

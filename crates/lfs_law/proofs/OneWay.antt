@@ -19,7 +19,7 @@ use Rattle.lfs_command.specs.Command.{Command, Mkdir, Put, Rm, Mv, SetAttr, RmAt
 use Rattle.lfs_command.specs.Cut.{HasEnough, cut, cut_directory, cut_head, cut_tail, more_parts, runs}
 use Rattle.lfs_command.specs.Edited.{edited, make_directory, put_file, with_directories}
 use Rattle.lfs_command.specs.Growth.{grown}
-use Rattle.lfs_command.specs.Home.{home_of}
+use Rattle.lfs_command.specs.Parent.{parent_of}
 use Rattle.lfs_command.specs.Leading.{leading_pair}
 use Rattle.lfs_command.specs.Need.{data_blocks, dirty_parts, need}
 use Rattle.lfs_command.specs.Ordered.{blocks_chosen, blocks_made, blocks_of_pairs, leader, overflowing, overflowing_led}
@@ -36,7 +36,7 @@ fronts_same [] [] us vs len is = (refl, is)
 fronts_same [] (y ∷ ys) us vs len is = absurd (omega (arith, len))
 fronts_same (x ∷ xs) [] us vs len is = absurd (omega (arith, len))
 fronts_same {X} (x ∷ xs) (y ∷ ys) us vs len is =
-    let whole : x ∷ (xs ++ us) ≡ y ∷ (ys ++ vs) = is in
+    let complete : x ∷ (xs ++ us) ≡ y ∷ (ys ++ vs) = is in
     let first : x ≡ y = cc in
     let others : xs ++ us ≡ ys ++ vs = cc in
     let rest = fronts_same xs ys us vs (omega (arith, len)) others in
@@ -55,7 +55,7 @@ pairs_same [] [] us vs len is = (refl, is)
 pairs_same [] (r ∷ rs) us vs len is = absurd (omega (arith, len))
 pairs_same (q ∷ qs) [] us vs len is = absurd (omega (arith, len))
 pairs_same (q ∷ qs) (r ∷ rs) us vs len is =
-    let whole : q.0 ∷ q.1 ∷ (blocks_of_pairs qs ++ us) ≡ r.0 ∷ r.1 ∷ (blocks_of_pairs rs ++ vs) = is in
+    let complete : q.0 ∷ q.1 ∷ (blocks_of_pairs qs ++ us) ≡ r.0 ∷ r.1 ∷ (blocks_of_pairs rs ++ vs) = is in
     let first : q.0 ≡ r.0 = cc in
     let second : q.1 ≡ r.1 = cc in
     let others : blocks_of_pairs qs ++ us ≡ blocks_of_pairs rs ++ vs = cc in
@@ -190,14 +190,14 @@ module _ (f g : Part → List Pair) (v : Volume) (leading : Option Pair) (enough
 made_same : (v : Volume) (c : Command) (s t : Supplies) (us vs : List ℕ) → length s.blocks ≡ length t.blocks
     → blocks_made v c s ++ us ≡ blocks_made v c t ++ vs → (edited v c s ≡ edited v c t) × (us ≡ vs)
 made_same v (Mkdir p) s t us vs len is =
-    let whole : s.pair.0 ∷ s.pair.1 ∷ us ≡ t.pair.0 ∷ t.pair.1 ∷ vs = is in
+    let complete : s.pair.0 ∷ s.pair.1 ∷ us ≡ t.pair.0 ∷ t.pair.1 ∷ vs = is in
     let first : s.pair.0 ≡ t.pair.0 = cc in
     let second : s.pair.1 ≡ t.pair.1 = cc in
     let others : us ≡ vs = cc in
-    (ap (λ (q : Pair). make_directory v q (home_of v p)) (pair_is s.pair t.pair first second), others)
+    (ap (λ (q : Pair). make_directory v q (parent_of v p)) (pair_is s.pair t.pair first second), others)
 made_same v (Put p bytes) s t us vs len is =
     let both = by (nat_le (length bytes) (most_inline v.size)) is in
-    (ap (λ (b : Body). put_file v b (home_of v p) (entry_at v p)) both.0, both.1)
+    (ap (λ (b : Body). put_file v b (parent_of v p) (entry_at v p)) both.0, both.1)
   where
     by : (inline : Bool) → (if inline then [] else s.blocks) ++ us ≡ (if inline then [] else t.blocks) ++ vs
         → ((if inline then Inline bytes else Chain s.blocks bytes) ≡ (if inline then Inline bytes else Chain t.blocks bytes)) × (us ≡ vs)

@@ -14,7 +14,7 @@ use Rattle.lfs_fs.proofs.OutlinedLemmas.{outlined_target, outlined_at}
 use Rattle.lfs_command.specs.ThreadEdit.{link, unlink, change, add_after}
 use Rattle.lfs_command.specs.Command.{Mkdir, Put, Rm, Mv, SetAttr, RmAttr, Grow}
 use Rattle.lfs_command.specs.Supplies.{new_body}
-use Rattle.lfs_command.specs.Home.{split_last, home_of}
+use Rattle.lfs_command.specs.Parent.{split_last, parent_of}
 use Rattle.lfs_command.specs.Edited.{with_directories, with_body, with_entry_attributes, renamed, new_entry, empty_directory}
 use Rattle.lfs_command.specs.Edited.{set_attributes, make_directory, put_file, drop_target, remove_entry, move_entry}
 use Rattle.lfs_law.specs.EditedOutline.{OutlinesFollow}
@@ -34,22 +34,22 @@ target_outlined (Some e) = outlined_target e
 -- ---- where a path belongs to
 
 -- a name in the directory that an entry leads to
-abbrev pub home_in : Name → Option Entry → Option (Pair × Name)
-home_in n o = option_and_then (λ e. option_map (λ (k : Pair). (k, n)) (target e)) o
+abbrev pub parent_in : Name → Option Entry → Option (Pair × Name)
+parent_in n o = option_and_then (λ e. option_map (λ (k : Pair). (k, n)) (target e)) o
 
-home_by : (n : Name) (o : Option Entry) → home_in n (option_map outlined_entry o) ≡ home_in n o
-home_by n None = refl
-home_by n (Some e) = ap (λ (o : Option Pair). option_map {U = Pair × Name} (λ (k : Pair). (k, n)) o) (outlined_target e)
+parent_by : (n : Name) (o : Option Entry) → parent_in n (option_map outlined_entry o) ≡ parent_in n o
+parent_by n None = refl
+parent_by n (Some e) = ap (λ (o : Option Pair). option_map {U = Pair × Name} (λ (k : Pair). (k, n)) o) (outlined_target e)
 
-abbrev pub home_split : Volume → Option (Path × Name) → Option (Pair × Name)
-home_split v o = option_and_then (λ (s : Path × Name). home_in s.1 (entry_at v s.0)) o
+abbrev pub parent_split : Volume → Option (Path × Name) → Option (Pair × Name)
+parent_split v o = option_and_then (λ (s : Path × Name). parent_in s.1 (entry_at v s.0)) o
 
-home_from : (v : Volume) (o : Option (Path × Name)) → home_split (outlined v) o ≡ home_split v o
-home_from v None = refl
-home_from v (Some s) = ap (home_in s.1) (outlined_at v s.0) ∙ home_by s.1 (entry_at v s.0)
+parent_from : (v : Volume) (o : Option (Path × Name)) → parent_split (outlined v) o ≡ parent_split v o
+parent_from v None = refl
+parent_from v (Some s) = ap (parent_in s.1) (outlined_at v s.0) ∙ parent_by s.1 (entry_at v s.0)
 
-pub home_outlined : (v : Volume) (path : Path) → home_of (outlined v) path ≡ home_of v path
-home_outlined v path = home_from v (split_last path)
+pub parent_outlined : (v : Volume) (path : Path) → parent_of (outlined v) path ≡ parent_of v path
+parent_outlined v path = parent_from v (split_last path)
 
 -- ---- the edits
 
@@ -123,27 +123,27 @@ move_outlined v (Some h) (Some g) (Some e) =
 -- ---- the commands
 
 pub outlines_follow : OutlinesFollow
-outlines_follow v (Mkdir p) s = make_outlined v s.pair (home_of v p) ∙ ap (make_directory (outlined v) s.pair) (sym (home_outlined v p))
+outlines_follow v (Mkdir p) s = make_outlined v s.pair (parent_of v p) ∙ ap (make_directory (outlined v) s.pair) (sym (parent_outlined v p))
 outlines_follow v (Put p bytes) s =
-    put_outlined v (new_body v s bytes) (home_of v p) (entry_at v p)
+    put_outlined v (new_body v s bytes) (parent_of v p) (entry_at v p)
     ∙ ap (λ (h : Option (Pair × Name)). put_file (outlined v) (outlined_body (new_body v s bytes)) h
-    (option_map outlined_entry (entry_at v p))) (sym (home_outlined v p))
-    ∙ ap (put_file (outlined v) (outlined_body (new_body v s bytes)) (home_of (outlined v) p)) (sym (outlined_at v p))
+    (option_map outlined_entry (entry_at v p))) (sym (parent_outlined v p))
+    ∙ ap (put_file (outlined v) (outlined_body (new_body v s bytes)) (parent_of (outlined v) p)) (sym (outlined_at v p))
 outlines_follow v (Rm p) s =
-    remove_outlined v (home_of v p) (entry_at v p)
-    ∙ ap (λ (h : Option (Pair × Name)). remove_entry (outlined v) h (option_map outlined_entry (entry_at v p))) (sym (home_outlined v p))
-    ∙ ap (remove_entry (outlined v) (home_of (outlined v) p)) (sym (outlined_at v p))
+    remove_outlined v (parent_of v p) (entry_at v p)
+    ∙ ap (λ (h : Option (Pair × Name)). remove_entry (outlined v) h (option_map outlined_entry (entry_at v p))) (sym (parent_outlined v p))
+    ∙ ap (remove_entry (outlined v) (parent_of (outlined v) p)) (sym (outlined_at v p))
 outlines_follow v (Mv p q) s =
-    move_outlined v (home_of v p) (home_of v q) (entry_at v p)
-    ∙ ap (λ (h : Option (Pair × Name)). move_entry (outlined v) h (home_of v q) (option_map outlined_entry (entry_at v p)))
-    (sym (home_outlined v p))
-    ∙ ap (λ (h : Option (Pair × Name)). move_entry (outlined v) (home_of (outlined v) p) h (option_map outlined_entry (entry_at v p)))
-    (sym (home_outlined v q))
-    ∙ ap (move_entry (outlined v) (home_of (outlined v) p) (home_of (outlined v) q)) (sym (outlined_at v p))
-outlines_follow v (SetAttr p k value) s = set_outlined v (set_attribute k value) (home_of v p)
-    ∙ ap (set_attributes (outlined v) (set_attribute k value)) (sym (home_outlined v p))
-outlines_follow v (RmAttr p k) s = set_outlined v (remove_attribute k) (home_of v p)
-    ∙ ap (set_attributes (outlined v) (remove_attribute k)) (sym (home_outlined v p))
+    move_outlined v (parent_of v p) (parent_of v q) (entry_at v p)
+    ∙ ap (λ (h : Option (Pair × Name)). move_entry (outlined v) h (parent_of v q) (option_map outlined_entry (entry_at v p)))
+    (sym (parent_outlined v p))
+    ∙ ap (λ (h : Option (Pair × Name)). move_entry (outlined v) (parent_of (outlined v) p) h (option_map outlined_entry (entry_at v p)))
+    (sym (parent_outlined v q))
+    ∙ ap (move_entry (outlined v) (parent_of (outlined v) p) (parent_of (outlined v) q)) (sym (outlined_at v p))
+outlines_follow v (SetAttr p k value) s = set_outlined v (set_attribute k value) (parent_of v p)
+    ∙ ap (set_attributes (outlined v) (set_attribute k value)) (sym (parent_outlined v p))
+outlines_follow v (RmAttr p k) s = set_outlined v (remove_attribute k) (parent_of v p)
+    ∙ ap (set_attributes (outlined v) (remove_attribute k)) (sym (parent_outlined v p))
 outlines_follow v (Grow n) s =
     ap (λ (ds : List Directory). record { size = v.size; count = n; limits = v.limits; attributes = v.attributes; directories = ds })
     (sym (touch_first_outlined v.directories))

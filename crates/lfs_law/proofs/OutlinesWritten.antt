@@ -16,7 +16,7 @@ use Rattle.lfs_meta.specs.declared.kind.Kind.TheVariants.{Super}
 use Rattle.lfs_meta.specs.declared.tail.Tail.{Tail}
 use Rattle.lfs_meta.specs.Body.{Pair}
 use Rattle.lfs_meta.specs.LiveBlock.{stored_part_of}
-use Rattle.lfs_commit.specs.Writing.{part_in}
+use Rattle.lfs_pair.specs.Writing.{part_in}
 use Rattle.lfs_fs.specs.AsStored.{head_of, stored_kind, stored_body, stored_entry}
 use Rattle.lfs_fs.specs.Entry.{Body, Inline, Chain, Directory_at, Entry}
 use Rattle.lfs_fs.specs.Directory.{Part, Directory, thread}

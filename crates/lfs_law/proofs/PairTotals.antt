@@ -13,7 +13,7 @@ use Rattle.lfs_command.specs.DirectoryEdit.{link_in, unlink_in, change_in, touch
 use Rattle.lfs_command.specs.ThreadEdit.{in_directory, link, unlink, change, add_after, take_out, drop_directory, touch_first}
 use Rattle.lfs_command.specs.Command.{Command, Mkdir, Put, Rm, Mv, SetAttr, RmAttr, Grow}
 use Rattle.lfs_command.specs.Supplies.{Supplies, new_body}
-use Rattle.lfs_command.specs.Home.{home_of}
+use Rattle.lfs_command.specs.Parent.{parent_of}
 use Rattle.lfs_command.specs.Edited.{with_body, with_entry_attributes, renamed, new_entry, empty_directory, set_attributes, make_directory}
 use Rattle.lfs_command.specs.Edited.{put_file, drop_target, remove_entry, move_entry, edited}
 use Rattle.lfs_law.proofs.DirectoryEdits.{pairs, keeps_link, keeps_unlink, keeps_change, keeps_touch_last, pairs_absorb}
@@ -170,10 +170,10 @@ made_total g (Grow n) s = 0
 
 pub edited_total : (g : Pair → ℕ) (v : Volume) (c : Command) (s : Supplies)
     → total g (edited v c s).directories ≤ total g v.directories + made_total g c s
-edited_total g v (Mkdir p) s = make_total g v s.pair (home_of v p)
-edited_total g v (Put p bytes) s = omega (arith, put_total g v (new_body v s bytes) (home_of v p) (entry_at v p))
-edited_total g v (Rm p) s = omega (arith, remove_total g v (home_of v p) (entry_at v p))
-edited_total g v (Mv p q) s = omega (arith, move_total g v (home_of v p) (home_of v q) (entry_at v p))
-edited_total g v (SetAttr p k value) s = omega (arith, set_total g v (set_attribute k value) (home_of v p))
-edited_total g v (RmAttr p k) s = omega (arith, set_total g v (remove_attribute k) (home_of v p))
+edited_total g v (Mkdir p) s = make_total g v s.pair (parent_of v p)
+edited_total g v (Put p bytes) s = omega (arith, put_total g v (new_body v s bytes) (parent_of v p) (entry_at v p))
+edited_total g v (Rm p) s = omega (arith, remove_total g v (parent_of v p) (entry_at v p))
+edited_total g v (Mv p q) s = omega (arith, move_total g v (parent_of v p) (parent_of v q) (entry_at v p))
+edited_total g v (SetAttr p k value) s = omega (arith, set_total g v (set_attribute k value) (parent_of v p))
+edited_total g v (RmAttr p k) s = omega (arith, set_total g v (remove_attribute k) (parent_of v p))
 edited_total g v (Grow n) s = omega (arith, touch_total g v.directories)

@@ -12,12 +12,12 @@ use Rattle.lfs_fs.specs.Directory.{Directory}
 use Rattle.lfs_fs.specs.Volume.{Volume}
 use Rattle.lfs_fs.specs.Tree.{entry_in, entry_at, top, node, node_of, tree}
 use Rattle.lfs_command.specs.declared.refusal.Refusal.{Refusal}
-use Rattle.lfs_command.specs.Home.{split_last}
+use Rattle.lfs_command.specs.Parent.{split_last}
 use Rattle.lfs_command.specs.Verdict.{walk_refusal_at, walk_refusal}
 use Rattle.lfs_law.specs.PairWalk.{pair_at, name_in, WalksGoByPairs}
 use Rattle.lfs_law.specs.WalkRefusal.{goes_on, refuses_at, walk_from, walk_all, WalksAreRefusedByPairs}
 use Rattle.lfs_law.proofs.OneEdge.{entry_under}
-use Rattle.lfs_law.proofs.OutlinesFollow.{home_in, home_split}
+use Rattle.lfs_law.proofs.OutlinesFollow.{parent_in, parent_split}
 use Rattle.lfs_law.proofs.Walks.{walk-snoc, step_by_target}
 
 -- ---- which directory a path leads to
@@ -54,16 +54,16 @@ last_at v path n =
 abbrev pub with_name : Name → Option Pair → Option (Pair × Name)
 with_name n o = option_map (λ (k : Pair). (k, n)) o
 
-home_leads : (n : Name) (o : Option Entry) → home_in n o ≡ with_name n (option_and_then target o)
-home_leads n None = refl
-home_leads n (Some e) = refl
+parent_leads : (n : Name) (o : Option Entry) → parent_in n o ≡ with_name n (option_and_then target o)
+parent_leads n None = refl
+parent_leads n (Some e) = refl
 
-home_by : (v : Volume) (o : Option (Path × Name)) → home_split v o ≡ option_and_then (name_in v.directories) o
-home_by v None = refl
-home_by v (Some s) = home_leads s.1 (entry_at v s.0) ∙ ap (with_name s.1) (leads_to v s.0)
+parent_by : (v : Volume) (o : Option (Path × Name)) → parent_split v o ≡ option_and_then (name_in v.directories) o
+parent_by v None = refl
+parent_by v (Some s) = parent_leads s.1 (entry_at v s.0) ∙ ap (with_name s.1) (leads_to v s.0)
 
 pub walks_go_by_pairs : WalksGoByPairs
-walks_go_by_pairs v = record { leads = leads_to v; last = last_at v; home = λ path. home_by v (split_last path) }
+walks_go_by_pairs v = record { leads = leads_to v; last = last_at v; parent = λ path. parent_by v (split_last path) }
 
 -- ---- why a walk is refused
 

@@ -29,7 +29,7 @@ use Rattle.lfs_command.specs.Supplies.{Supplies, nothing}
 use Rattle.lfs_command.specs.Verdict.{is_too_large, checks, room_checks, refuse_if, first_refusal}
 use Rattle.lfs_law.proofs.Cuts.{cut_part, cut_thread, head_by, tail_by}
 use Rattle.lfs_law.proofs.Decided.{same_pair_decides}
-use Rattle.lfs_law.proofs.Homes.{first_passes, test_passes}
+use Rattle.lfs_law.proofs.Parents.{first_passes, test_passes}
 use Rattle.lfs_law.proofs.LargeParts.{large_is_the_same}
 use Rattle.lfs_law.proofs.LinksAdded.{first_used}
 use Rattle.lfs_law.proofs.RunsFit.{FirstFits, runs_fit, light_all}

@@ -16,7 +16,7 @@ use Rattle.lfs_fs.proofs.CountLemmas.{leads_once}
 use Rattle.lfs_fs.proofs.EntryAtLemmas.{step_some}
 use Rattle.lfs_command.specs.Verdict.{walk_refusal, is_root}
 use Rattle.lfs_law.proofs.Found.{found_le}
-use Rattle.lfs_law.proofs.Homes.{HasHome, has_home}
+use Rattle.lfs_law.proofs.Parents.{HasParent, has_parent}
 use Rattle.lfs_law.proofs.OneEdge.{entry_under}
 use Rattle.lfs_law.proofs.OneElement.{found_has}
 use Rattle.lfs_law.proofs.OnePath.{one_directory, entry_found}
@@ -54,17 +54,17 @@ led_directory v sound p e k here leads = omega (arith, one_directory v sound k, 
 
 -- The place of a path's last name.
 pub record IsPlaced (v : Volume) (p : Path) : Type 0 where
-  pub home : HasHome v p
-  pub once : count_by (begins_at home.pair) v.directories ≡ 1
-  pub edge : entry_at v p ≡ entry_in v.directories home.pair home.name
+  pub parent : HasParent v p
+  pub once : count_by (begins_at parent.pair) v.directories ≡ 1
+  pub edge : entry_at v p ≡ entry_in v.directories parent.pair parent.name
 
 pub is_placed : (v : Volume) (p : Path) → IsSound v → All IsName p → is_root p ≡ false → walk_refusal (tree v) [] p ≡ None → IsPlaced v p
 is_placed v p sound names below walk =
-    let home = has_home v p names below walk in
+    let parent = has_parent v p names below walk in
     record {
-      home = home;
-      once = led_directory v sound home.front home.above home.pair home.at home.leads;
-      edge = ap (entry_at v) home.whole ∙ entry_under v home.front home.above home.pair home.name home.at home.leads;
+      parent = parent;
+      once = led_directory v sound parent.front parent.above parent.pair parent.at parent.leads;
+      edge = ap (entry_at v) parent.complete ∙ entry_under v parent.front parent.above parent.pair parent.name parent.at parent.leads;
     }
 
 -- an entry of a sound volume is within its limits

@@ -14,7 +14,7 @@ use Rattle.lfs_fs.specs.Named.{leads_to}
 use Rattle.lfs_fs.specs.Sound.{IsSound, IsProper}
 use Rattle.lfs_command.specs.PathMap.{put_at_path}
 use Rattle.lfs_command.specs.ThreadEdit.{link, change}
-use Rattle.lfs_command.specs.Home.{home_of}
+use Rattle.lfs_command.specs.Parent.{parent_of}
 use Rattle.lfs_command.specs.Edited.{with_directories, with_body, new_entry, put_file}
 use Rattle.lfs_law.proofs.Effect.{AreGood, none, of_entry}
 use Rattle.lfs_law.proofs.OneEdge.{OneEdge, alike_from_targets, tree_after}
@@ -38,21 +38,21 @@ new_proper v n body bytes name fits new = record { name = name; name_fits = fits
 
 pub new_file_follows : (v : Volume) (p : Path) (body : Body) (bytes : List ℕ) → NamesAreOrdered → IsSound v → (at : IsPlaced v p)
     → entry_at v p ≡ None
-    → length at.home.name ≤ v.limits.name → IsNewBody v body bytes
-    → Puts v (put_file v body (home_of v p) None) p (Some (File bytes [])) (λ b. 0) (λ b. body_uses b body)
+    → length at.parent.name ≤ v.limits.name → IsNewBody v body bytes
+    → Puts v (put_file v body (parent_of v p) None) p (Some (File bytes [])) (λ b. 0) (λ b. body_uses b body)
 new_file_follows v p body bytes ordered sound at fresh fits new =
-    let k = at.home.pair in
-    let n = at.home.name in
+    let k = at.parent.pair in
+    let n = at.parent.name in
     let e : Entry = new_entry n body in
     let edge : entry_in v.directories k n ≡ None = sym at.edge ∙ fresh in
-    let old : entry_at v (at.home.front ++ n ∷ []) ≡ None = ap (entry_at v) (sym at.home.whole) ∙ fresh in
+    let old : entry_at v (at.parent.front ++ n ∷ []) ≡ None = ap (entry_at v) (sym at.parent.complete) ∙ fresh in
     let good : AreGood v.limits v.directories = sound_is_good v sound in
     let ds = link k e v.directories in
-    let one : OneEdge v (with_directories v ds) at.home.front k n (Some e) = record {
+    let one : OneEdge v (with_directories v ds) at.parent.front k n (Some e) = record {
       sound = sound;
-      holder = at.home.above;
-      holder_at = at.home.at;
-      holder_leads = at.home.leads;
+      holder = at.parent.above;
+      holder_at = at.parent.at;
+      holder_leads = at.parent.leads;
       attributes = refl;
       edge = link_edge k e v.directories at.once edge;
       others = link_other k e v.directories;
@@ -60,9 +60,9 @@ new_file_follows v p body bytes ordered sound at fresh fits new =
     let alike = alike_from_targets one (new.leads ∙ ap (option_and_then target) (sym old)) in
     let effect = link_effect k e v.directories at.once in
     let follows : Puts v (with_directories v ds) p (Some (File bytes [])) (λ b. 0) (λ b. body_uses b body) = record {
-      sound = edge_sound v ds at.home.front k n (Some e) none (of_entry e) one alike
+      sound = edge_sound v ds at.parent.front k n (Some e) none (of_entry e) one alike
           effect
-          (link_good v.limits k e v.directories ordered good at.once edge (new_proper v n body bytes at.home.named fits new))
+          (link_good v.limits k e v.directories ordered good at.once edge (new_proper v n body bytes at.parent.named fits new))
           (record {
             once = new.once;
             within = new.within;
@@ -74,11 +74,11 @@ new_file_follows v p body bytes ordered sound at fresh fits new =
       uses = effect.uses;
       at = λ q.
           tree_after one alike q
-          ∙ ap (λ (x : Path). put_at_path x (Some (node e)) (tree v) q) (sym at.home.whole)
+          ∙ ap (λ (x : Path). put_at_path x (Some (node e)) (tree v) q) (sym at.parent.complete)
           ∙ ap (λ (x : Node). put_at_path p (Some x) (tree v) q) (new.shows []);
     } in
     subst (λ (h : Option (Pair × Name)). Puts v (put_file v body h None) p (Some (File bytes [])) (λ b. 0) (λ b. body_uses b body))
-    (sym at.home.home) follows
+    (sym at.parent.parent) follows
 
 -- ---- a file that was there
 
@@ -94,29 +94,29 @@ put_proper v body bytes e new proper = record {
 pub old_file_follows : (v : Volume) (p : Path) (body : Body) (bytes : List ℕ) (e : Entry) → NamesAreOrdered → IsSound v
     → (at : IsPlaced v p) → entry_at v p ≡ Some e
     → target e ≡ None → IsNewBody v body bytes
-    → Puts v (put_file v body (home_of v p) (Some e)) p (Some (File bytes e.attributes)) (λ b. entry_uses b e) (λ b. body_uses b body)
+    → Puts v (put_file v body (parent_of v p) (Some e)) p (Some (File bytes e.attributes)) (λ b. entry_uses b e) (λ b. body_uses b body)
 old_file_follows v p body bytes e ordered sound at here file new =
-    let k = at.home.pair in
-    let n = at.home.name in
+    let k = at.parent.pair in
+    let n = at.parent.name in
     let f : Entry → Entry = with_body body in
     let edge : entry_in v.directories k n ≡ Some e = sym at.edge ∙ here in
-    let old : entry_at v (at.home.front ++ n ∷ []) ≡ Some e = ap (entry_at v) (sym at.home.whole) ∙ here in
+    let old : entry_at v (at.parent.front ++ n ∷ []) ≡ Some e = ap (entry_at v) (sym at.parent.complete) ∙ here in
     let good : AreGood v.limits v.directories = sound_is_good v sound in
     let ds = change k n f v.directories in
-    let one : OneEdge v (with_directories v ds) at.home.front k n (Some (f e)) = record {
+    let one : OneEdge v (with_directories v ds) at.parent.front k n (Some (f e)) = record {
       sound = sound;
-      holder = at.home.above;
-      holder_at = at.home.at;
-      holder_leads = at.home.leads;
+      holder = at.parent.above;
+      holder_at = at.parent.at;
+      holder_leads = at.parent.leads;
       attributes = refl;
       edge = change_edge k n f v.directories e (λ x. refl) edge;
       others = change_other k n f v.directories (λ x. refl);
     } in
-    let led_nowhere : option_and_then target (entry_at v (at.home.front ++ n ∷ [])) ≡ None = ap (option_and_then target) old ∙ file in
+    let led_nowhere : option_and_then target (entry_at v (at.parent.front ++ n ∷ [])) ≡ None = ap (option_and_then target) old ∙ file in
     let alike = alike_from_targets one (new.leads ∙ sym led_nowhere) in
     let effect = change_effect v.limits k n f e v.directories ordered good at.once edge in
     let follows : Puts v (with_directories v ds) p (Some (File bytes e.attributes)) (λ b. entry_uses b e) (λ b. body_uses b body) = record {
-      sound = edge_sound v ds at.home.front k n (Some (f e)) (of_entry e) (of_entry (f e)) one alike
+      sound = edge_sound v ds at.parent.front k n (Some (f e)) (of_entry e) (of_entry (f e)) one alike
           effect
           (change_good v.limits k n f e v.directories ordered (λ x. refl) good at.once edge
           (put_proper v body bytes e new (proper_entry v sound k n e edge)))
@@ -131,8 +131,8 @@ old_file_follows v p body bytes e ordered sound at here file new =
       uses = effect.uses;
       at = λ q.
           tree_after one alike q
-          ∙ ap (λ (x : Path). put_at_path x (Some (node (f e))) (tree v) q) (sym at.home.whole)
+          ∙ ap (λ (x : Path). put_at_path x (Some (node (f e))) (tree v) q) (sym at.parent.complete)
           ∙ ap (λ (x : Node). put_at_path p (Some x) (tree v) q) (new.shows e.attributes);
     } in
     subst (λ (h : Option (Pair × Name)). Puts v (put_file v body h (Some e)) p (Some (File bytes e.attributes)) (λ b. entry_uses b e)
-    (λ b. body_uses b body)) (sym at.home.home) follows
+    (λ b. body_uses b body)) (sym at.parent.parent) follows

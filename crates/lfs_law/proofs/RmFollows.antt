@@ -23,7 +23,7 @@ use Rattle.lfs_command.specs.PathMap.{put_at_path}
 use Rattle.lfs_command.specs.EntryEdit.{without}
 use Rattle.lfs_command.specs.DirectoryEdit.{unlink_in}
 use Rattle.lfs_command.specs.ThreadEdit.{unlink, drop_directory}
-use Rattle.lfs_command.specs.Home.{home_of}
+use Rattle.lfs_command.specs.Parent.{parent_of}
 use Rattle.lfs_command.specs.Edited.{with_directories, drop_target, remove_entry}
 use Rattle.lfs_command.specs.Verdict.{is_bare}
 use Rattle.lfs_command.specs.Freed.{folder_uses}
@@ -48,29 +48,29 @@ target_uses_of v o b = unwrap_or (option_map (λ k. folder_uses v k b) o) 0
 
 file_gone : (v : Volume) (p : Path) (e : Entry) → NamesAreOrdered → IsSound v → (at : IsPlaced v p) → entry_at v p ≡ Some e
     → target e ≡ None
-    → Puts v (with_directories v (unlink at.home.pair at.home.name v.directories)) p None
+    → Puts v (with_directories v (unlink at.parent.pair at.parent.name v.directories)) p None
     (λ b. entry_uses b e + target_uses_of v (target e) b) (λ b. 0)
 file_gone v p e ordered sound at here file =
-    let k = at.home.pair in
-    let n = at.home.name in
+    let k = at.parent.pair in
+    let n = at.parent.name in
     let edge : entry_in v.directories k n ≡ Some e = sym at.edge ∙ here in
-    let old : entry_at v (at.home.front ++ n ∷ []) ≡ Some e = ap (entry_at v) (sym at.home.whole) ∙ here in
+    let old : entry_at v (at.parent.front ++ n ∷ []) ≡ Some e = ap (entry_at v) (sym at.parent.complete) ∙ here in
     let good : AreGood v.limits v.directories = sound_is_good v sound in
     let ds : List Directory = unlink k n v.directories in
-    let one : OneEdge v (with_directories v ds) at.home.front k n None = record {
+    let one : OneEdge v (with_directories v ds) at.parent.front k n None = record {
       sound = sound;
-      holder = at.home.above;
-      holder_at = at.home.at;
-      holder_leads = at.home.leads;
+      holder = at.parent.above;
+      holder_at = at.parent.at;
+      holder_leads = at.parent.leads;
       attributes = refl;
       edge = unlink_edge k n v.directories;
       others = unlink_other k n v.directories;
     } in
-    let led_nowhere : option_and_then target (entry_at v (at.home.front ++ n ∷ [])) ≡ None = ap (option_and_then target) old ∙ file in
+    let led_nowhere : option_and_then target (entry_at v (at.parent.front ++ n ∷ [])) ≡ None = ap (option_and_then target) old ∙ file in
     let alike = alike_from_targets one (sym led_nowhere) in
     let effect = unlink_effect v.limits k n e v.directories ordered good at.once edge in
     record {
-      sound = edge_sound v ds at.home.front k n None (of_entry e) none one alike
+      sound = edge_sound v ds at.parent.front k n None (of_entry e) none one alike
           effect
           (unlink_good v.limits k n v.directories good)
           (record {
@@ -82,7 +82,7 @@ file_gone v p e ordered sound at here file =
           });
       frame = record { size = refl; count = refl; limits = refl };
       uses = λ b. omega (arith, effect.uses b, ap (λ (o : Option Pair). target_uses_of v o b) file);
-      at = λ q. tree_after one alike q ∙ ap (λ (x : Path). put_at_path x None (tree v) q) (sym at.home.whole);
+      at = λ q. tree_after one alike q ∙ ap (λ (x : Path). put_at_path x None (tree v) q) (sym at.parent.complete);
     }
 
 -- ---- an empty directory
@@ -92,7 +92,7 @@ other_than_root : (v : Volume) (p : Path) (e : Entry) (j : Pair) → IsSound v �
     → target e ≡ Some j → j ≡ root → ⊥
 other_than_root v p e j sound at here leads is =
     let same : p ≡ [] = one_path v sound p [] e (top v) root here refl (leads ∙ ap Some is) refl in
-    no_names at.home.front at.home.name [] (sym at.home.whole ∙ same)
+    no_names at.parent.front at.parent.name [] (sym at.parent.complete ∙ same)
 
 bare_by : (o : Option Directory) (d : Directory) → o ≡ Some d → unwrap_or (option_map (λ x. length (entries x) == 0) o) true ≡ true
     → entries d ≡ []
@@ -130,13 +130,13 @@ no_entry ds j d m found empty = ap (option_and_then (λ (x : Directory). find (i
 
 directory_gone : (v : Volume) (p : Path) (e : Entry) (j : Pair) → NamesAreOrdered → IsSound v → (at : IsPlaced v p) → entry_at v p ≡ Some e
     → target e ≡ Some j → is_bare v (Some j) ≡ true
-    → Puts v (with_directories v (drop_directory j (unlink at.home.pair at.home.name v.directories))) p None
+    → Puts v (with_directories v (drop_directory j (unlink at.parent.pair at.parent.name v.directories))) p None
     (λ b. entry_uses b e + target_uses_of v (target e) b) (λ b. 0)
 directory_gone v p e j ordered sound at here leads bare =
-    let k = at.home.pair in
-    let n = at.home.name in
+    let k = at.parent.pair in
+    let n = at.parent.name in
     let edge : entry_in v.directories k n ≡ Some e = sym at.edge ∙ here in
-    let old : entry_at v (at.home.front ++ n ∷ []) ≡ Some e = ap (entry_at v) (sym at.home.whole) ∙ here in
+    let old : entry_at v (at.parent.front ++ n ∷ []) ≡ Some e = ap (entry_at v) (sym at.parent.complete) ∙ here in
     let good : AreGood v.limits v.directories = sound_is_good v sound in
     let unlinked : List Directory = unlink k n v.directories in
     let first : Effect (of_entry e) none v.directories unlinked = unlink_effect v.limits k n e v.directories ordered good at.once edge in
@@ -154,21 +154,21 @@ directory_gone v p e j ordered sound at here leads bare =
     let is_key : j ≡ key now.0 = found_key unlinked j now.0 now.1 in
     let edges : (i : Pair) (m : Name) → entry_in ds i m ≡ entry_in unlinked i m =
     drop_edges j now.0 unlinked other starts now.1 now.2 once_now in
-    let one : OneEdge v (with_directories v ds) at.home.front k n None = record {
+    let one : OneEdge v (with_directories v ds) at.parent.front k n None = record {
       sound = sound;
-      holder = at.home.above;
-      holder_at = at.home.at;
-      holder_leads = at.home.leads;
+      holder = at.parent.above;
+      holder_at = at.parent.at;
+      holder_leads = at.parent.leads;
       attributes = refl;
       edge = edges k n ∙ unlink_edge k n v.directories;
       others = λ i m apart. edges i m ∙ unlink_other k n v.directories i m apart;
     } in
-    let led : option_and_then target (entry_at v (at.home.front ++ n ∷ [])) ≡ Some j = ap (option_and_then target) old ∙ leads in
-    let alike : Alike v (with_directories v ds) (entry_at v (at.home.front ++ n ∷ [])) None = λ m.
+    let led : option_and_then target (entry_at v (at.parent.front ++ n ∷ [])) ≡ Some j = ap (option_and_then target) old ∙ leads in
+    let alike : Alike v (with_directories v ds) (entry_at v (at.parent.front ++ n ∷ [])) None = λ m.
     sym (ap (step target (entry_in v.directories) m) old ∙ ap (option_and_then (λ (i : Pair). entry_in v.directories i m)) leads
     ∙ no_entry v.directories j was.0 m was.1 was_empty) in
     record {
-      sound = edge_sound v ds at.home.front k n None (of_both (of_entry e) (of_directory now.0)) (of_both none none) one alike
+      sound = edge_sound v ds at.parent.front k n None (of_both (of_entry e) (of_directory now.0)) (of_both none none) one alike
           (in_a_row (of_entry e) none (of_directory now.0) none v.directories unlinked ds first second)
           (drop_good v.limits j unlinked (unlink_good v.limits k n v.directories good))
           (record {
@@ -195,22 +195,22 @@ directory_gone v p e j ordered sound at here leads bare =
         ap (λ (o : Option Pair). target_uses_of v o b) leads,
         ap (λ (o : Option Directory). unwrap_or (option_map (directory_uses b) o) 0) was.1,
       );
-      at = λ q. tree_after one alike q ∙ ap (λ (x : Path). put_at_path x None (tree v) q) (sym at.home.whole);
+      at = λ q. tree_after one alike q ∙ ap (λ (x : Path). put_at_path x None (tree v) q) (sym at.parent.complete);
     }
 
 -- ---- the command
 
 gone_by : (v : Volume) (p : Path) (e : Entry) → NamesAreOrdered → IsSound v → (at : IsPlaced v p) → entry_at v p ≡ Some e
     → (o : Option Pair) → target e ≡ o → is_bare v o ≡ true
-    → Puts v (with_directories v (drop_target o (unlink at.home.pair at.home.name v.directories))) p None
+    → Puts v (with_directories v (drop_target o (unlink at.parent.pair at.parent.name v.directories))) p None
     (λ b. entry_uses b e + target_uses_of v (target e) b) (λ b. 0)
 gone_by v p e ordered sound at here None is bare = file_gone v p e ordered sound at here is
 gone_by v p e ordered sound at here (Some j) is bare = directory_gone v p e j ordered sound at here is bare
 
 pub rm_follows : (v : Volume) (p : Path) (e : Entry) → NamesAreOrdered → IsSound v → (at : IsPlaced v p) → entry_at v p ≡ Some e
     → is_bare v (target e) ≡ true
-    → Puts v (remove_entry v (home_of v p) (Some e)) p None (λ b. entry_uses b e + target_uses_of v (target e) b) (λ b. 0)
+    → Puts v (remove_entry v (parent_of v p) (Some e)) p None (λ b. entry_uses b e + target_uses_of v (target e) b) (λ b. 0)
 rm_follows v p e ordered sound at here bare =
     subst (λ (h : Option (Pair × Name)). Puts v (remove_entry v h (Some e)) p None (λ b. entry_uses b e + target_uses_of v (target e) b)
-    (λ b. 0)) (sym at.home.home)
+    (λ b. 0)) (sym at.parent.parent)
     (gone_by v p e ordered sound at here (target e) refl bare)

@@ -8,8 +8,8 @@ use Rattle.lfs_fs.specs.Entry.{Entry}
 use Rattle.lfs_fs.specs.Weight.{weight}
 
 -- So many runs are begun, the last of which weighs so much and has so many entries; some entries are left.
-pub record AreBegun (whole room begun count taken len : ℕ) (left : List Entry) : Type 0 where
-  pub is : count + length (runs_after weight room taken len left) ≡ whole + 1
+pub record AreBegun (complete room begun count taken len : ℕ) (left : List Entry) : Type 0 where
+  pub is : count + length (runs_after weight room taken len left) ≡ complete + 1
   pub few_runs : count ≤ begun + 1
   pub light : taken ≤ 330244
   pub few : len ≤ 1000
@@ -30,10 +30,10 @@ length_by room taken len e es false is =
     rw is (omega (arith, onto_length e (runs_after weight room (weight e) 1 es) (some_run weight room (weight e) 1 es)))
 
 -- the last run takes the entry
-pub takes_one : (whole room begun count taken len next : ℕ) (e : Entry) (left : List Entry) → room ≤ 65536 → next ≡ weight e
+pub takes_one : (complete room begun count taken len next : ℕ) (e : Entry) (left : List Entry) → room ≤ 65536 → next ≡ weight e
     → run_takes room taken len next ≡ true
-    → AreBegun whole room begun count taken len (e ∷ left) → AreBegun whole room (begun + 1) count (taken + next) (len + 1) left
-takes_one whole room begun count taken len next e left small is takes to =
+    → AreBegun complete room begun count taken len (e ∷ left) → AreBegun complete room (begun + 1) count (taken + next) (len + 1) left
+takes_one complete room begun count taken len next e left small is takes to =
     let fits : taken + next ≤ room = grind (arith, nat_tests) in
     let few : len < 1000 = grind (arith, nat_tests) in
     rw is (record {
@@ -44,10 +44,10 @@ takes_one whole room begun count taken len next e left small is takes to =
     })
 
 -- another one does
-pub begins_one : (whole room begun count taken len next : ℕ) (e : Entry) (left : List Entry) → next ≡ weight e → next ≤ 264708
+pub begins_one : (complete room begun count taken len next : ℕ) (e : Entry) (left : List Entry) → next ≡ weight e → next ≤ 264708
     → run_takes room taken len next ≡ false
-    → AreBegun whole room begun count taken len (e ∷ left) → AreBegun whole room (begun + 1) (count + 1) (0 + next) (0 + 1) left
-begins_one whole room begun count taken len next e left is small leaves to =
+    → AreBegun complete room begun count taken len (e ∷ left) → AreBegun complete room (begun + 1) (count + 1) (0 + next) (0 + 1) left
+begins_one complete room begun count taken len next e left is small leaves to =
     let weighs : 0 + next ≡ weight e = omega (arith, is) in
     let one : 0 + 1 ≡ 1 = omega arith in
     rw (weighs, one) (record {
@@ -57,8 +57,8 @@ begins_one whole room begun count taken len next e left is small leaves to =
       few = omega arith;
     })
 
-pub all_begun : (whole room begun count taken len : ℕ) (left : List Entry) → length left ≡ 0
-    → AreBegun whole room begun count taken len left → count ≡ whole
+pub all_begun : (complete room begun count taken len : ℕ) (left : List Entry) → length left ≡ 0
+    → AreBegun complete room begun count taken len left → count ≡ complete
 unfolding runs_after
-all_begun whole room begun count taken len [] none to = omega (arith, to.is)
-all_begun whole room begun count taken len (e ∷ es) none to = absurd (omega (arith, none))
+all_begun complete room begun count taken len [] none to = omega (arith, to.is)
+all_begun complete room begun count taken len (e ∷ es) none to = absurd (omega (arith, none))

@@ -22,7 +22,7 @@ use Rattle.lfs_law.proofs.TouchFirst.{touch_first_edges, touch_first_effect, tou
 use Rattle.lfs_law.proofs.SoundAfter.{sound_after}
 use Rattle.lfs_law.proofs.EdgeEdits.{sound_is_good, Puts, edge_sound}
 use Rattle.lfs_law.proofs.Placed.{IsPlaced, proper_entry}
-use Rattle.lfs_command.specs.Home.{home_of}
+use Rattle.lfs_command.specs.Parent.{parent_of}
 
 -- what a change of attributes keeps
 abbrev pub KeepsGood : (Attributes → Attributes) → Volume → Type 0
@@ -64,33 +64,33 @@ set_proper v f e keeps proper = record {
 }
 
 entry_edge : (v : Volume) (f : Attributes → Attributes) (p : Path) (e : Entry) → IsSound v → (at : IsPlaced v p) → entry_at v p ≡ Some e
-    → OneEdge v (with_directories v (change at.home.pair at.home.name (with_entry_attributes f) v.directories)) at.home.front at.home.pair
-    at.home.name (Some (with_entry_attributes f e))
+    → OneEdge v (with_directories v (change at.parent.pair at.parent.name (with_entry_attributes f) v.directories)) at.parent.front at.parent.pair
+    at.parent.name (Some (with_entry_attributes f e))
 entry_edge v f p e sound at here = record {
   sound = sound;
-  holder = at.home.above;
-  holder_at = at.home.at;
-  holder_leads = at.home.leads;
+  holder = at.parent.above;
+  holder_at = at.parent.at;
+  holder_leads = at.parent.leads;
   attributes = refl;
-  edge = change_edge at.home.pair at.home.name (with_entry_attributes f) v.directories e (λ x. refl) (sym at.edge ∙ here);
-  others = change_other at.home.pair at.home.name (with_entry_attributes f) v.directories (λ x. refl);
+  edge = change_edge at.parent.pair at.parent.name (with_entry_attributes f) v.directories e (λ x. refl) (sym at.edge ∙ here);
+  others = change_other at.parent.pair at.parent.name (with_entry_attributes f) v.directories (λ x. refl);
 }
 
 pub entry_set_follows : (v : Volume) (f : Attributes → Attributes) (p : Path) (e : Entry) → NamesAreOrdered → IsSound v → KeepsGood f v
     → (at : IsPlaced v p) → entry_at v p ≡ Some e
-    → Puts v (set_attributes v f (home_of v p)) p (option_map (with_attributes f) (tree v p)) (λ b. 0) (λ b. 0)
+    → Puts v (set_attributes v f (parent_of v p)) p (option_map (with_attributes f) (tree v p)) (λ b. 0) (λ b. 0)
 entry_set_follows v f p e ordered sound keeps at here =
-    let k = at.home.pair in
-    let n = at.home.name in
+    let k = at.parent.pair in
+    let n = at.parent.name in
     let edge : entry_in v.directories k n ≡ Some e = sym at.edge ∙ here in
     let good : AreGood v.limits v.directories = sound_is_good v sound in
     let one = entry_edge v f p e sound at here in
     let effect = change_effect v.limits k n (with_entry_attributes f) e v.directories ordered good at.once edge in
-    let old : entry_at v (at.home.front ++ n ∷ []) ≡ Some e = ap (entry_at v) (sym at.home.whole) ∙ here in
+    let old : entry_at v (at.parent.front ++ n ∷ []) ≡ Some e = ap (entry_at v) (sym at.parent.complete) ∙ here in
     let alike = alike_from_targets one (ap (option_and_then target) (sym old)) in
     let follows : Puts v (with_directories v (change k n (with_entry_attributes f) v.directories)) p
     (option_map (with_attributes f) (tree v p)) (λ b. 0) (λ b. 0) = record {
-      sound = edge_sound v (change k n (with_entry_attributes f) v.directories) at.home.front k n (Some (with_entry_attributes f e))
+      sound = edge_sound v (change k n (with_entry_attributes f) v.directories) at.parent.front k n (Some (with_entry_attributes f e))
           (of_entry e) (of_entry (with_entry_attributes f e)) one alike
           effect
           (change_good v.limits k n (with_entry_attributes f) e v.directories ordered (λ x. refl) good at.once edge
@@ -106,9 +106,9 @@ entry_set_follows v f p e ordered sound keeps at here =
       uses = λ b. omega (arith, effect.uses b);
       at = λ q.
           tree_after one alike q
-          ∙ ap (λ (x : Path). put_at_path x (Some (node (with_entry_attributes f e))) (tree v) q) (sym at.home.whole)
+          ∙ ap (λ (x : Path). put_at_path x (Some (node (with_entry_attributes f e))) (tree v) q) (sym at.parent.complete)
           ∙ ap (λ (x : Option Node). put_at_path p x (tree v) q) (ap Some (shows_set f e.body e.attributes)
           ∙ ap (λ (x : Option Entry). option_map (with_attributes f) (option_map node x)) (sym here));
     } in
     subst (λ (h : Option (Pair × Name)). Puts v (set_attributes v f h) p (option_map (with_attributes f) (tree v p)) (λ b. 0) (λ b. 0))
-    (sym at.home.home) follows
+    (sym at.parent.parent) follows

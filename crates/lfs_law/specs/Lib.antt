@@ -18,5 +18,5 @@ pub mod PairWalk
 pub mod WalkRefusal
 pub mod PlansWritten
 pub mod OutlineCarried
-pub mod HomeChecks
+pub mod ParentChecks
 pub mod TablesFollow

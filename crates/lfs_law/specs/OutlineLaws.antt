@@ -6,7 +6,7 @@ use Rattle.lfs_block.specs.Disk.{Disk, IsDisk}
 use Rattle.lfs_block.specs.Patch.{ChangeSet, IsPatch, AgreesOld, applied}
 use Rattle.lfs_meta.specs.Attribute.{Attributes}
 use Rattle.lfs_meta.specs.Body.{Pair}
-use Rattle.lfs_commit.specs.Difference.{Forced}
+use Rattle.lfs_pair.specs.Difference.{Forced}
 use Rattle.lfs_fs.specs.AsStored.{head_of}
 use Rattle.lfs_fs.specs.Entry.{Body, Inline, Chain, Directory_at, Entry}
 use Rattle.lfs_fs.specs.Outlined.{outlined}

@@ -9,7 +9,7 @@ use Rattle.lfs_fs.specs.Entry.{target}
 use Rattle.lfs_fs.specs.Directory.{Directory}
 use Rattle.lfs_fs.specs.Volume.{Volume}
 use Rattle.lfs_fs.specs.Tree.{entry_in, entry_at}
-use Rattle.lfs_command.specs.Home.{split_last, home_of}
+use Rattle.lfs_command.specs.Parent.{split_last, parent_of}
 
 -- the directory at a path from the one of a pair
 abbrev pub pair_at : List Directory → Pair → Path → Option Pair
@@ -25,7 +25,7 @@ pub record GoByPairs (v : Volume) : Type 0 where
   pub leads : (path : Path) → option_and_then target (entry_at v path) ≡ pair_at v.directories root path
   pub last : (path : Path) (n : Name) → entry_at v (path ++ n ∷ []) ≡ option_and_then (λ k. entry_in v.directories k n)
       (pair_at v.directories root path)
-  pub home : (path : Path) → home_of v path ≡ option_and_then (name_in v.directories) (split_last path)
+  pub parent : (path : Path) → parent_of v path ≡ option_and_then (name_in v.directories) (split_last path)
 
 -- the law: they do
 abbrev pub WalksGoByPairs : Type 0

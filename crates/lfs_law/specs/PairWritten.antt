@@ -7,10 +7,10 @@ use Rattle.lfs_meta.specs.declared.tail.Tail.{Tail}
 use Rattle.lfs_meta.specs.Attribute.{Attributes}
 use Rattle.lfs_meta.specs.Body.{Pair}
 use Rattle.lfs_meta.specs.Fits.{TailFits}
-use Rattle.lfs_meta.specs.Whole.{IsWhole}
+use Rattle.lfs_meta.specs.Complete.{IsComplete}
 use Rattle.lfs_meta.specs.Weighing.{weights}
-use Rattle.lfs_commit.specs.Difference.{Forced}
-use Rattle.lfs_commit.specs.Writing.{stored_part}
+use Rattle.lfs_pair.specs.Difference.{Forced}
+use Rattle.lfs_pair.specs.Writing.{stored_part}
 use Rattle.lfs_meta.specs.LiveBlock.{stored_part_of}
 use Rattle.lfs_meta.specs.Runs.{most_entries}
 use Rattle.lfs_fs.specs.Directory.{Part}
@@ -42,7 +42,7 @@ pub record FitsPair (d : Disk) (part : Found) : Type 0 where
   pub apart : part.0.0 ≢ part.0.1
   pub first : part.0.0 < d.count
   pub second : part.0.1 < d.count
-  pub whole : AllByRecursion IsWhole part.1.entries
+  pub complete : AllByRecursion IsComplete part.1.entries
   pub few : length part.1.entries ≤ most_entries
   pub room : weights part.1.entries + 40 ≤ d.size
   pub tail : TailFits part.1.tail

@@ -6,7 +6,7 @@ use Rattle.lfs_block.specs.Disk.{Disk}
 use Rattle.lfs_block.specs.Patch.{ChangeSet, applied}
 use Rattle.lfs_meta.specs.Attribute.{Attributes}
 use Rattle.lfs_meta.specs.Body.{Pair}
-use Rattle.lfs_commit.specs.Difference.{Forced}
+use Rattle.lfs_pair.specs.Difference.{Forced}
 use Rattle.lfs_fs.specs.Directory.{Part}
 use Rattle.lfs_fs.specs.Outlined.{outlined}
 use Rattle.lfs_fs.specs.Volume.{Volume}

@@ -10,10 +10,10 @@ use Rattle.lfs_meta.specs.Body.{Pair}
 use Rattle.lfs_meta.specs.Entry.{StoredEntry}
 use Rattle.lfs_meta.specs.Part.{StoredPart}
 use Rattle.lfs_meta.specs.Fits.{TailFits}
-use Rattle.lfs_meta.specs.Whole.{IsWhole}
+use Rattle.lfs_meta.specs.Complete.{IsComplete}
 use Rattle.lfs_meta.specs.Weighing.{weights}
-use Rattle.lfs_commit.specs.Difference.{Forced}
-use Rattle.lfs_commit.specs.Writing.{part_in, stored_part}
+use Rattle.lfs_pair.specs.Difference.{Forced}
+use Rattle.lfs_pair.specs.Writing.{part_in, stored_part}
 use Rattle.lfs_meta.specs.Runs.{most_entries}
 use Rattle.lfs_fs.specs.AsStored.{stored_entry}
 use Rattle.lfs_fs.specs.Directory.{Part}
@@ -49,7 +49,7 @@ FillsFirst d cs pair = FirstIsFilled d.size (block_after d cs pair.0) (block_aft
 -- a change that can be made of an image
 pub record CanBeMade (d : Disk) (c : Change) : Type 0 where
   pub stands : Stands d c
-  pub whole : IsBlockChange d.size c
+  pub complete : IsBlockChange d.size c
 
 -- ---- which blocks are written
 
@@ -95,7 +95,7 @@ pub record CanBeWritten (d : Disk) (bytes : List ℕ) (attributes : Attributes) 
   pub apart : l.part.pair.0 ≢ l.part.pair.1
   pub first : l.part.pair.0 < d.count
   pub second : l.part.pair.1 < d.count
-  pub whole : AllByRecursion IsWhole (stored_entries bytes attributes l.part)
+  pub complete : AllByRecursion IsComplete (stored_entries bytes attributes l.part)
   pub few : length (stored_entries bytes attributes l.part) ≤ most_entries
   pub room : weights (stored_entries bytes attributes l.part) + 40 ≤ d.size
   pub tail : TailFits l.tail

@@ -17,10 +17,8 @@ use lfs_meta::{live_blocks_are_read, names_are_decided, parts_depend_on_their_bl
 use lfs_tag::laws::blocks_have_a_log;
 
 /// A law: links are written one after another, none at first (`none`): one that is set by changes of its pair's blocks, where none of
-/// those written before uses one of them (`added`), so that there is no change of them yet (`free`), and one that isn't set by
-/// no change (`left`). Takes no memory.
-///
-/// Source: own.
+/// those written before uses one of them (`added`), so that there is no change of them yet (`free`), and one that isn't set by no
+/// change (`left`).
 pub fn links_are_written_in_turn()
     ensures none { NoLinksAreWritten }
     ensures free { LinksAreFree }
@@ -28,11 +26,9 @@ pub fn links_are_written_in_turn()
     ensures left { LinksAreLeft }
 {}
 
-/// A law: where a patch writes the links of an outline, the chains of its volume are there, and nothing else that the old volume
-/// used is written, the patch writes the volume (`written`), what is new stands in the first blocks of new pairs (`filled`), and pairs
-/// that were there are changed as their links are written (`changed`). Takes no memory.
-///
-/// Source: own.
+/// A law: where a patch writes the links of an outline, the chains of its volume are there, and nothing else that the old volume used
+/// is written, the patch writes the volume (`written`), what is new stands in the first blocks of new pairs (`filled`), and pairs that
+/// were there are changed as their links are written (`changed`).
 pub fn outlines_are_written()
     ensures written { OutlinesAreWritten }
     ensures filled { NewPairsAreFilled }
@@ -41,9 +37,7 @@ pub fn outlines_are_written()
     kept_counts_change_their_blocks();
 }
 
-/// A law: where a patch writes the outline of what an accepted command leaves, cut, the patched image holds it. Takes no memory.
-///
-/// Source: own.
+/// A law: where a patch writes the outline of what an accepted command leaves, cut, the patched image holds it.
 pub fn plans_hold()
     ensures { PlansHold }
 {
@@ -55,33 +49,25 @@ pub fn plans_hold()
 }
 
 /// A law: the blocks that are written for an accepted command are those that it takes and one of the pair of each part that it
-/// rewrites (`taken`), none of them twice (`once`). Takes no memory.
-///
-/// Source: own.
+/// rewrites (`taken`), none of them twice (`once`).
 pub fn written_blocks_are_taken()
     ensures taken { BlocksAreTaken }
     ensures once { BlocksAreWrittenOnce }
 {}
 
-/// A law: the least free blocks are free. Takes no memory.
-///
-/// Source: own.
+/// A law: the least free blocks are free.
 pub fn least_blocks_are_free()
     ensures { LeastAreFree }
 {}
 
 /// A law: a table of the blocks that a volume uses tells its pairs from new ones, where links are written (`new`) and where pairs are
-/// changed (`changed`). Takes no memory.
-///
-/// Source: own.
+/// changed (`changed`).
 pub fn tables_tell_new_pairs()
     ensures new { TablesTellNew }
     ensures changed { TablesTellChanged }
 {}
 
-/// A law: a file's contents that are laid in blocks are there when the links are written. Takes no memory.
-///
-/// Source: own.
+/// A law: a file's contents that are laid in blocks are there when the links are written.
 pub fn laid_contents_are_there()
     ensures { LaidAreThere }
 {
@@ -90,17 +76,13 @@ pub fn laid_contents_are_there()
 }
 
 /// A law: where a command takes the least free blocks, as many are changed as it needs and one more for each part that it rewrites, and
-/// these are they. Takes no memory.
-///
-/// Source: own.
+/// these are they.
 pub fn plans_are_frugal()
     ensures { PlansAreFrugal }
 {}
 
 /// A law: where an accepted command's new contents and the links of what it leaves, cut, are written, its outline is: the chains of
-/// the volume stay, and so do the root's attributes where its first part does. Takes no memory.
-///
-/// Source: own.
+/// the volume stay, and so do the root's attributes where its first part does.
 pub fn commands_are_written()
     ensures { CommandsAreWritten }
 {
@@ -113,10 +95,8 @@ pub fn commands_are_written()
 }
 
 /// A law: the links that are set of what an accepted command leaves, cut, may be written (`written`). A part in a new
-/// pair has no share of the global state (`fresh`). So all of them can be written behind the changes of new
-/// contents, as a table of the blocks that the volume uses tells its pairs from new ones (`added`). Takes no memory.
-///
-/// Source: own.
+/// pair has no share of the global state (`fresh`). So all of them can be written behind the changes of new contents,
+/// as a table of the blocks that the volume uses tells its pairs from new ones (`added`).
 pub fn cut_links_can_be_written()
     ensures written { CutLinksCanBeWritten }
     ensures fresh { NewPairsAreFresh }
@@ -127,9 +107,7 @@ pub fn cut_links_can_be_written()
     cuts_follow();
 }
 
-/// A law: an image that is lengthened holds the same parts of a sound volume, with the superblock as it was. Takes no memory.
-///
-/// Source: own.
+/// A law: an image that is lengthened holds the same parts of a sound volume, with the superblock as it was.
 pub fn lengthened_images_hold()
     ensures { LengthenedImagesHold }
 {
@@ -138,17 +116,13 @@ pub fn lengthened_images_hold()
     stored_links_stay();
 }
 
-/// A law: the struct of a superblock that is made of a volume's size, count and limits says them. Takes no memory.
-///
-/// Source: own.
+/// A law: the struct of a superblock that is made of a volume's size, count and limits says them.
 pub fn made_superblocks_say_their_volume()
     ensures { MadeBytesSay }
 {}
 
 /// A law: the struct of the superblock of an image that holds a sound volume is the one that is made of the volume's size, count and
-/// limits. Takes no memory.
-///
-/// Source: own.
+/// limits.
 pub fn held_superblocks_are_made()
     ensures { HeldBytesAreMade }
 {

@@ -10,9 +10,11 @@ use Rattle.lfs_fs.specs.Directory.{Directory}
 use Rattle.lfs_fs.specs.Entry.{Body, Inline, Chain, Directory_at}
 use Rattle.lfs_fs.specs.Row.{Row}
 use Rattle.lfs_fs.specs.Volume.{Volume}
-use Rattle.lfs_listing.specs.BlockMap.{Run, block_map, block_users, body_blocks, has_block, put_before, run_line, run_word, runs_from, user, user_row, user_words}
-use Rattle.lfs_listing.specs.Listing.{shown_byte}
-use Rattle.lfs_listing.specs.Using.{may_have_blocks, row_end, user_end}
+use Rattle.lfs_json.specs.declared.form.Form.{Form}
+use Rattle.lfs_json.specs.declared.form.Form.TheVariants.{Text, Json}
+use Rattle.lfs_listing.specs.BlockMap.{Run, block_map, block_line, block_users, body_blocks, has_block, put_before, runs_from, user, user_row}
+use Rattle.lfs_listing.specs.Using.{may_have_blocks, part_line, part_of, row_part, run_line, user_part}
+use Rattle.lfs_json.proofs.BlockLemmas.{run_line_is}
 
 -- ---- runs are of the users that there are
 
@@ -32,11 +34,24 @@ runs_all : (P : Option ℕ → Type 0) (b : ℕ) (us : List (Option ℕ)) → Al
 runs_all P b [] h = tt
 runs_all P b (u ∷ us) h = put_all P b u (runs_from (b + 1) us) h.0 (runs_all P (b + 1) us h.1)
 
-lines_agree : (f g : Option ℕ → List ℕ) (runs : List Run) → AllOf (λ u. f u ≡ g u) runs → flat_map (run_line f) runs ≡ flat_map (run_line g) runs
-lines_agree f g [] h = refl
-lines_agree f g (run ∷ runs) h =
-    ap (λ (xs : List ℕ). (run_word run.first run.last ++ xs) ++ flat_map (run_line f) runs) h.0
-    ∙ ap (λ (xs : List ℕ). run_line g run ++ xs) (lines_agree f g runs h.1)
+lines_agree : (form : Form) (f g : Option ℕ → List ℕ) (runs : List Run) → AllOf (λ u. f u ≡ g u) runs
+    → flat_map (run_line form f) runs ≡ flat_map (run_line form g) runs
+lines_agree form f g [] h = refl
+lines_agree form f g (run ∷ runs) h =
+    ap (λ (xs : List ℕ). part_line form run.first run.last xs ++ flat_map (run_line form f) runs) h.0
+    ∙ ap (λ (xs : List ℕ). run_line form g run ++ xs) (lines_agree form f g runs h.1)
+
+-- a line with what is said of its user is the run's
+line_agrees : (form : Form) (rows : List Row) (run : Run) → run_line form (λ u. user_part form (user_row rows u)) run ≡ block_line form rows run
+line_agrees Text rows run = refl
+line_agrees Json rows run = sym (run_line_is (user_row rows run.user) run.first run.last)
+
+blocks_agree : (form : Form) (rows : List Row) (runs : List Run)
+    → flat_map (run_line form (λ u. user_part form (user_row rows u))) runs ≡ flat_map (block_line form rows) runs
+blocks_agree form rows [] = refl
+blocks_agree form rows (run ∷ runs) =
+    ap (λ (xs : List ℕ). xs ++ flat_map (run_line form (λ u. user_part form (user_row rows u))) runs) (line_agrees form rows run)
+    ∙ ap (λ (xs : List ℕ). block_line form rows run ++ xs) (blocks_agree form rows runs)
 
 -- ---- a user's row has blocks
 
@@ -45,9 +60,9 @@ none_inline ds b (Inline bytes) has = absurd (cc)
 none_inline ds b (Chain blocks bytes) has = refl
 none_inline ds b (Directory_at pair) has = refl
 
--- the end of a user's line is that of its row
-abbrev EndsAlike : List Row → Option ℕ → Type 0
-EndsAlike rows u = user_end (map row_end rows) u ≡ user_words shown_byte (user_row rows u)
+-- what is said of a user is said of its row
+abbrev PartsAlike : Form → List Row → Option ℕ → Type 0
+PartsAlike form rows u = part_of form (map (row_part form) rows) u ≡ user_part form (user_row rows u)
 
 -- the row that is found passes
 found_by : (t : Bool) (p : Row → Bool) (n : ℕ) (r : Row) (rs : List Row) (k : ℕ) → p r ≡ t
@@ -69,27 +84,28 @@ user_found v rows b k is =
     let same : h.0 ≡ k = omega (arith, h.2) in
     (h.1, ap (slice_get rows) (sym same) ∙ h.3, h.4)
 
-ends_by : (v : Volume) (rows : List Row) (b : ℕ) (o : Option ℕ) → user v rows b ≡ o → EndsAlike rows o
-ends_by v rows b None is = refl
-ends_by v rows b (Some k) is =
+parts_by : (form : Form) (v : Volume) (rows : List Row) (b : ℕ) (o : Option ℕ) → user v rows b ≡ o → PartsAlike form rows o
+parts_by form v rows b None is = refl
+parts_by form v rows b (Some k) is =
     let h = user_found v rows b k is in
     let within : k < length rows = slice_get_within rows k h.0 h.1 in
     let may : may_have_blocks h.0.entry.body ≡ true = none_inline v.directories b h.0.entry.body h.2 in
-    get_or-map row_end rows k h.0 [] within ∙ ap row_end (get_or_from_slice_get rows k h.0 h.0 h.1)
-    ∙ ap (λ (t : Bool). cond t (user_words shown_byte (Some h.0)) []) may
-    ∙ ap (user_words shown_byte) (sym h.1)
+    get_or-map (row_part form) rows k h.0 [] within ∙ ap (row_part form) (get_or_from_slice_get rows k h.0 h.0 h.1)
+    ∙ ap (λ (t : Bool). cond t (user_part form (Some h.0)) []) may
+    ∙ ap (user_part form) (sym h.1)
 
 all_mapped : (P : Option ℕ → Type 0) (f : ℕ → Option ℕ) (xs : List ℕ) → ((x : ℕ) → P (f x)) → AllByRecursion P (map f xs)
 all_mapped P f [] h = tt
 all_mapped P f (x ∷ xs) h = (h x, all_mapped P f xs h)
 
 -- the lines of the runs are the text
-pub map_text : (v : Volume) (rows : List Row) (us : List (Option ℕ)) (ends : List (List ℕ)) → us ≡ block_users v rows → ends ≡ map row_end rows
-    → flat_map (run_line (user_end ends)) (runs_from 0 us) ≡ block_map shown_byte v rows
-map_text v rows us ends users' ends' =
-    let words : Option ℕ → List ℕ = λ u. user_words shown_byte (user_row rows u) in
-    ap (λ (xs : List (Option ℕ)). flat_map (run_line (user_end ends)) (runs_from 0 xs)) users'
-    ∙ ap (λ (es : List (List ℕ)). flat_map (run_line (user_end es)) (runs_from 0 (block_users v rows))) ends'
-    ∙ lines_agree (user_end (map row_end rows)) words (runs_from 0 (block_users v rows))
-    (runs_all (EndsAlike rows) 0 (block_users v rows) (all_mapped (EndsAlike rows) (user v rows) (range_with_len 0 v.count) (λ b.
-    ends_by v rows b (user v rows b) refl)))
+pub map_text : (form : Form) (v : Volume) (rows : List Row) (us : List (Option ℕ)) (parts : List (List ℕ)) → us ≡ block_users v rows
+    → parts ≡ map (row_part form) rows → flat_map (run_line form (part_of form parts)) (runs_from 0 us) ≡ block_map form v rows
+map_text form v rows us parts users' parts' =
+    let said : Option ℕ → List ℕ = λ u. user_part form (user_row rows u) in
+    ap (λ (xs : List (Option ℕ)). flat_map (run_line form (part_of form parts)) (runs_from 0 xs)) users'
+    ∙ ap (λ (ps : List (List ℕ)). flat_map (run_line form (part_of form ps)) (runs_from 0 (block_users v rows))) parts'
+    ∙ lines_agree form (part_of form (map (row_part form) rows)) said (runs_from 0 (block_users v rows))
+    (runs_all (PartsAlike form rows) 0 (block_users v rows) (all_mapped (PartsAlike form rows) (user v rows) (range_with_len 0 v.count) (λ b.
+    parts_by form v rows b (user v rows b) refl)))
+    ∙ blocks_agree form rows (runs_from 0 (block_users v rows))

@@ -48,11 +48,11 @@ front_more front d numbers h b within =
 pub noted_more : (ds : List Directory) (i : ℕ) (d : Directory) (numbers new : List (Option ℕ)) → i < length ds → d ≡ get_or ds i d
     → new ≡ set numbers (key_block d) (Some i) → AreNumbers (take i ds) numbers → AreNumbers (take (i + 1) ds) new
 noted_more ds i d numbers new within at is h =
-    let whole : take (i + 1) ds ≡ take i ds ++ d ∷ [] = take_more ds i d within ∙ ap (λ (c : Directory). take i ds ++ c ∷ []) (sym at) in
+    let complete : take (i + 1) ds ≡ take i ds ++ d ∷ [] = take_more ds i d within ∙ ap (λ (c : Directory). take i ds ++ c ∷ []) (sym at) in
     let len : length (take i ds) ≡ i = length-take-le i ds (omega arith) in
     let noted : set numbers (key_block d) (Some (length (take i ds))) ≡ new =
     ap (λ (n : ℕ). set numbers (key_block d) (Some n)) len ∙ sym is in
-    subst (λ (cs : List Directory). AreNumbers cs new) (sym whole)
+    subst (λ (cs : List Directory). AreNumbers cs new) (sym complete)
     (subst (AreNumbers (take i ds ++ d ∷ [])) noted (front_more (take i ds) d numbers h))
 
 none_at : (b : ℕ) (o : Option ℕ) → o ≡ None → IsNumberAt [] b o

@@ -6,8 +6,9 @@ pub mod BufferLemmas
 pub mod ColumnLemmas
 pub mod CountingLemmas
 pub mod DigitLemmas
+pub mod DigestLemmas
 pub mod DirectoryLemmas
-pub mod EndLemmas
+pub mod PartLemmas
 pub mod FlatLemmas
 pub mod GatheringLemmas
 pub mod KeptLemmas
@@ -27,5 +28,5 @@ pub mod UnreadLemmas
 pub mod UnsentLemmas
 pub mod UsesLemmas
 pub mod UsingLemmas
-pub mod WholeLemmas
+pub mod CompleteLemmas
 pub mod WithinLemmas

@@ -7,7 +7,9 @@ use Rattle.std.proofs.lemmas.Bool.{cases_lt}
 use Rattle.std.proofs.lemmas.Bool.Decides.{nat_tests}
 use Rattle.std.proofs.lemmas.Option.{slice_get-get_or, slice_get_past}
 use Rattle.std.proofs.lemmas.List.{drop_all}
-use Rattle.lfs_listing.specs.BlockMap.{Run, put_before, run_line, run_word, runs_from}
+use Rattle.lfs_json.specs.declared.form.Form.{Form}
+use Rattle.lfs_listing.specs.BlockMap.{Run, put_before, runs_from}
+use Rattle.lfs_listing.specs.Using.{part_line, run_line}
 use Rattle.lfs_listing.specs.Runs.{goes_on}
 use Rattle.lfs_listing.proofs.BufferLemmas.{IsUnderWay, more_waits}
 
@@ -122,29 +124,29 @@ run_ends (suc n) b us within on ends =
 -- ---- their lines
 
 -- a run that ends at a block waits
-pub run_waits : (old new : Option (List ℕ)) (waits longer whole : List ℕ) (words : Option ℕ → List ℕ) (us : List (Option ℕ)) (first block : ℕ)
-    (end : List ℕ) → IsUnderWay old new waits (flat_map (run_line words) (runs_from first (drop first us))) whole
+pub run_waits : (form : Form) (old new : Option (List ℕ)) (waits longer complete : List ℕ) (words : Option ℕ → List ℕ) (us : List (Option ℕ)) (first block : ℕ)
+    (end : List ℕ) → IsUnderWay old new waits (flat_map (run_line form words) (runs_from first (drop first us))) complete
     → first ≤ block → block < length us → ((k : ℕ) → first ≤ k → k < block → goes_on us k ≡ true) → goes_on us block ≡ false
-    → end ≡ words (get_or us block None) → longer ≡ waits ++ (run_word first block ++ end)
-    → IsUnderWay old new longer (flat_map (run_line words) (runs_from (block + 1) (drop (block + 1) us))) whole
-run_waits old new waits longer whole words us first block end h before within on ends word is =
+    → end ≡ words (get_or us block None) → longer ≡ waits ++ (part_line form first block end)
+    → IsUnderWay old new longer (flat_map (run_line form words) (runs_from (block + 1) (drop (block + 1) us))) complete
+run_waits form old new waits longer complete words us first block end h before within on ends word is =
     let n : ℕ = block - first in
     let there : first + n ≡ block = omega arith in
     let run : runs_from first (drop first us) ≡ run_of first block (get_or us block None) ∷ runs_from (block + 1) (drop (block + 1) us) =
     run_ends n first us (omega arith) (λ k from to. on k from (omega arith)) (ap (goes_on us) there ∙ ends)
     ∙ ap (λ (i : ℕ). run_of first i (get_or us i None) ∷ runs_from (i + 1) (drop (i + 1) us)) there in
-    more_waits old new waits (run_word first block ++ end) (flat_map (run_line words) (runs_from (block + 1) (drop (block + 1) us))) longer whole
-    (subst (λ (rest : List ℕ). IsUnderWay old new waits rest whole)
-    (ap (flat_map (run_line words)) run ∙ ap (λ (w : List ℕ). (run_word first block ++ w) ++ flat_map (run_line words)
+    more_waits old new waits (part_line form first block end) (flat_map (run_line form words) (runs_from (block + 1) (drop (block + 1) us))) longer complete
+    (subst (λ (rest : List ℕ). IsUnderWay old new waits rest complete)
+    (ap (flat_map (run_line form words)) run ∙ ap (λ (w : List ℕ). part_line form first block w ++ flat_map (run_line form words)
     (runs_from (block + 1) (drop (block + 1) us))) (sym word)) h) is
 
 -- no run is left
-pub runs_done : (old new : Option (List ℕ)) (waits whole : List ℕ) (words : Option ℕ → List ℕ) (us : List (Option ℕ)) (first : ℕ)
-    → length us ≤ first → IsUnderWay old new waits (flat_map (run_line words) (runs_from first (drop first us))) whole
-    → IsUnderWay old new waits [] whole
-runs_done old new waits whole words us first over h =
-    subst (λ (rest : List ℕ). IsUnderWay old new waits rest whole)
-    (ap (λ (xs : List (Option ℕ)). flat_map (run_line words) (runs_from first xs)) (drop_all first us over)) h
+pub runs_done : (form : Form) (old new : Option (List ℕ)) (waits complete : List ℕ) (words : Option ℕ → List ℕ) (us : List (Option ℕ)) (first : ℕ)
+    → length us ≤ first → IsUnderWay old new waits (flat_map (run_line form words) (runs_from first (drop first us))) complete
+    → IsUnderWay old new waits [] complete
+runs_done form old new waits complete words us first over h =
+    subst (λ (rest : List ℕ). IsUnderWay old new waits rest complete)
+    (ap (λ (xs : List (Option ℕ)). flat_map (run_line form words) (runs_from first xs)) (drop_all first us over)) h
 
 -- a block is the last one whose run goes on
 pub goes_within : (us : List (Option ℕ)) (block : ℕ) → goes_on us block ≡ true → block + 1 < length us

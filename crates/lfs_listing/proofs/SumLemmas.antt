@@ -13,8 +13,8 @@ use Rattle.lfs_fs.specs.Path.{Path}
 use Rattle.lfs_fs.specs.Row.{Row, RowsRise, path_precedes}
 use Rattle.lfs_fs.specs.Volume.{Volume}
 use Rattle.lfs_listing.specs.BlockMap.{block_users, user}
+use Rattle.lfs_json.specs.declared.form.Form.{Form}
 use Rattle.lfs_listing.specs.BlockSums.{is_within, sum_line, taken, uses_within}
-use Rattle.lfs_listing.specs.Listing.{shown_byte}
 use Rattle.lfs_listing.specs.Summing.{AreCounts, deeper_sum, depth_sum, sum_lines, weigh}
 use Rattle.lfs_listing.proofs.BlockMapLemmas.{user_found}
 use Rattle.lfs_listing.proofs.BufferLemmas.{IsUnderWay, more_waits}
@@ -159,9 +159,9 @@ row_takes v listed rows us cs i r is rise users' counts at =
 
 -- ---- the lines
 
-pub lines_of_rows : (f : Row → ℕ) (rows : List Row) → sum_lines rows (map f rows) ≡ flat_map (λ r. sum_line shown_byte (Some r) (f r)) rows
-lines_of_rows f [] = refl
-lines_of_rows f (r ∷ rs) = ap (λ (xs : List ℕ). sum_line shown_byte (Some r) (f r) ++ xs) (lines_of_rows f rs)
+pub lines_of_rows : (form : Form) (f : Row → ℕ) (rows : List Row) → sum_lines form rows (map f rows) ≡ flat_map (λ r. sum_line form (Some r) (f r)) rows
+lines_of_rows form f [] = refl
+lines_of_rows form f (r ∷ rs) = ap (λ (xs : List ℕ). sum_line form (Some r) (f r) ++ xs) (lines_of_rows form f rs)
 
 -- each row takes what its path does
 pub sums_are_taken : (v : Volume) (listed : List Listed) (rows : List Row) (us : List (Option ℕ)) (cs sums : List ℕ)
@@ -199,26 +199,26 @@ users_within v rows us is =
 -- ---- the lines, row by row
 
 -- the line of one more row waits
-pub sum_waits : (old new : Option (List ℕ)) (q : Path) (left later : List Listed) (x : Listed) (sums rest waits longer last whole : List ℕ) (n : ℕ)
-    → IsUnderWay old new waits (sum_lines (rows_after q left) sums ++ last) whole → left ≡ x ∷ later
-    → longer ≡ waits ++ sum_line shown_byte (Some (row_after q x)) n → n ≡ slice_index sums 0 → rest ≡ drop 1 sums
-    → IsUnderWay old new longer (sum_lines (rows_after (path_after q x.depth x.entry.name) later) rest ++ last) whole
-sum_waits old new q left later x sums rest waits longer last whole n h first line number others =
+pub sum_waits : (form : Form) (old new : Option (List ℕ)) (q : Path) (left later : List Listed) (x : Listed) (sums rest waits longer last complete : List ℕ) (n : ℕ)
+    → IsUnderWay old new waits (sum_lines form (rows_after q left) sums ++ last) complete → left ≡ x ∷ later
+    → longer ≡ waits ++ sum_line form (Some (row_after q x)) n → n ≡ slice_index sums 0 → rest ≡ drop 1 sums
+    → IsUnderWay old new longer (sum_lines form (rows_after (path_after q x.depth x.entry.name) later) rest ++ last) complete
+sum_waits form old new q left later x sums rest waits longer last complete n h first line number others =
     let next : Path = path_after q x.depth x.entry.name in
-    let words : List ℕ = sum_line shown_byte (Some (row_after q x)) n in
-    let more : List ℕ = sum_lines (rows_after next later) rest in
-    let all : sum_lines (rows_after q left) sums ++ last ≡ words ++ (more ++ last) =
-    ap (λ (xs : List Listed). sum_lines (rows_after q xs) sums ++ last) first
-    ∙ ap (λ (k : ℕ). (sum_line shown_byte (Some (row_after q x)) k ++ sum_lines (rows_after next later) (drop 1 sums)) ++ last) (sym number)
-    ∙ ap (λ (ns : List ℕ). (words ++ sum_lines (rows_after next later) ns) ++ last) (sym others)
+    let words : List ℕ = sum_line form (Some (row_after q x)) n in
+    let more : List ℕ = sum_lines form (rows_after next later) rest in
+    let all : sum_lines form (rows_after q left) sums ++ last ≡ words ++ (more ++ last) =
+    ap (λ (xs : List Listed). sum_lines form (rows_after q xs) sums ++ last) first
+    ∙ ap (λ (k : ℕ). (sum_line form (Some (row_after q x)) k ++ sum_lines form (rows_after next later) (drop 1 sums)) ++ last) (sym number)
+    ∙ ap (λ (ns : List ℕ). (words ++ sum_lines form (rows_after next later) ns) ++ last) (sym others)
     ∙ append_assoc words more last in
-    more_waits old new waits words (more ++ last) longer whole (subst (λ (xs : List ℕ). IsUnderWay old new waits xs whole) all h) line
+    more_waits old new waits words (more ++ last) longer complete (subst (λ (xs : List ℕ). IsUnderWay old new waits xs complete) all h) line
 
 -- the last line waits
-pub last_waits : (old new : Option (List ℕ)) (q : Path) (left : List Listed) (sums waits longer last whole : List ℕ)
-    → IsUnderWay old new waits (sum_lines (rows_after q left) sums ++ last) whole → left ≡ [] → longer ≡ waits ++ last
-    → IsUnderWay old new longer [] whole
-last_waits old new q left sums waits longer last whole h none line =
-    more_waits old new waits last [] longer whole
-    (subst (λ (xs : List ℕ). IsUnderWay old new waits xs whole)
-    (ap (λ (xs : List Listed). sum_lines (rows_after q xs) sums ++ last) none ∙ sym (append-nil last)) h) line
+pub last_waits : (form : Form) (old new : Option (List ℕ)) (q : Path) (left : List Listed) (sums waits longer last complete : List ℕ)
+    → IsUnderWay old new waits (sum_lines form (rows_after q left) sums ++ last) complete → left ≡ [] → longer ≡ waits ++ last
+    → IsUnderWay old new longer [] complete
+last_waits form old new q left sums waits longer last complete h none line =
+    more_waits old new waits last [] longer complete
+    (subst (λ (xs : List ℕ). IsUnderWay old new waits xs complete)
+    (ap (λ (xs : List Listed). sum_lines form (rows_after q xs) sums ++ last) none ∙ sym (append-nil last)) h) line

@@ -37,7 +37,7 @@ shows_there shows d m is disk p n there =
     let x = entry_of (entry_at is.volume p) n there in
     let outline : entry_at m.outline p ≡ Some (outlined_entry x.0) =
     ap (λ (v : Volume). entry_at v p) is.outline ∙ outlined_at is.volume p ∙ ap (λ (o : Option Entry). option_map outlined_entry o) x.1 in
-    let row = is.rows.whole p (outlined_entry x.0) outline in
+    let row = is.rows.complete p (outlined_entry x.0) outline in
     let shown = shows d m is (record { path = p; entry = outlined_entry x.0 }) disk row in
     (outlined_entry x.0, row, same_Some n (shown_node d (outlined_entry x.0)) (sym there ∙ shown.0))
 
@@ -103,7 +103,7 @@ plain_rows shows d m is disk t same = record {
       (All-weaker (Contains m.rows) (λ (r : Row). option_map plain (t r.path) ≡ Some (plain (shown_node d r.entry))) (λ r there.
       ap (λ (o : Option Node). option_map plain o) (same r.path ∙ (shows d m is r disk there).0))
       m.rows (All-contains_itself m.rows));
-  whole = λ p e at.
+  complete = λ p e at.
       let n = node_of_plain (t p) e at in
       let row = shows_there shows d m is disk p n.0 (sym (same p) ∙ n.1) in
       let mapped = contains_mapped (plain_row d) m.rows (record { path = p; entry = row.0 }) row.1 in
@@ -137,15 +137,15 @@ rows_same d e (a ∷ left) (b ∷ right) same =
 -- ---- the law
 
 pub differences_show_trees : PathsAreOrdered → RowsAreUnique → RowsShowTheTree → TreesAreOne → DifferencesAreEmptyOfEqualTrees
-differences_show_trees order unique shows one d e m k t u disk second is are mounts others =
+differences_show_trees order unique shows one form d e m k t u disk second is are mounts others =
     let mine : Mounts d (tree is.volume) = (is.volume, is.holds, is.sound, λ p. refl) in
     let yours : Mounts e (tree are.volume) = (are.volume, are.holds, are.sound, λ p. refl) in
     let first : (p : Path) → t p ≡ tree is.volume p = one d t (tree is.volume) mounts mine in
     let last : (p : Path) → u p ≡ tree are.volume p = one e u (tree are.volume) others yours in (
       λ none p.
-          first p ∙ trees_same shows d e m k is are disk second (none_differ_same order d e m.rows k.rows none) p ∙ sym (last p),
+          first p ∙ trees_same shows d e m k is are disk second (none_differ_same order form d e m.rows k.rows none) p ∙ sym (last p),
       λ same.
-          same_differ_none order d e m.rows k.rows (rows_same d e m.rows k.rows
+          same_differ_none order form d e m.rows k.rows (rows_same d e m.rows k.rows
           (unique (λ p. option_map plain (u p)) (map (plain_row d) m.rows) (map (plain_row e) k.rows)
           (plain_rows shows d m is disk u (λ p. sym (same p) ∙ first p)) (plain_rows shows e k are second u last))),
     )

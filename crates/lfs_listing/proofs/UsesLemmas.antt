@@ -117,7 +117,7 @@ by_pair v sound rows are b d there (p, e, at, leads) some' =
     ap (body_blocks v.directories) body.1 ∙ ap (λ (k : Pair). directory_blocks (find (begins_at k) v.directories)) body.2
     ∙ ap directory_blocks (finds_itself v sound d there) in (
       record { path = p; entry = e },
-      are.whole p e at,
+      are.complete p e at,
       ap (list_any (λ x. x == b)) blocks ∙ times_any b (flat_map part_blocks (parts d)) (omega (arith, some', pair_times b (parts d))),
     )
 
@@ -128,7 +128,7 @@ by_entry v sound rows are b d there (p, e, at, leads) some' =
     let rise : Rise (entries d) = All-contains (λ (c : Directory). Rise (entries c)) v.directories d sound.order there in
     let below : entry_at v (p ++ f.0.name ∷ []) ≡ Some f.0 =
     entry_below v p f.0.name e (key d) d at leads (finds_itself v sound d there) ∙ named_finds (entries d) f.0 rise f.1 in
-    (record { path = p ++ f.0.name ∷ []; entry = f.0 }, are.whole (p ++ f.0.name ∷ []) f.0 below, chain_has v.directories b f.0.body f.2)
+    (record { path = p ++ f.0.name ∷ []; entry = f.0 }, are.complete (p ++ f.0.name ∷ []) f.0 below, chain_has v.directories b f.0.body f.2)
 
 used_has : (v : Volume) → IsSound v → (rows : List Row) → AreRows (entry_at v) rows → (b : ℕ) → 1 ≤ uses b v → HasRow v rows b
 used_has v sound rows are b some' =

@@ -84,9 +84,9 @@ pub parts_more : (n : ℕ) (old mid new : List (Option ℕ)) (ps : List Part) (i
     → mid ≡ fold (give n) old (flat_map part_blocks (take i ps)) → new ≡ fold (give n) mid (part_blocks p)
     → new ≡ fold (give n) old (flat_map part_blocks (take (i + 1) ps))
 parts_more n old mid new ps i p within at is more =
-    let whole : take (i + 1) ps ≡ take i ps ++ p ∷ [] = take_more ps i p within ∙ ap (λ (q : Part). take i ps ++ q ∷ []) (sym at) in
+    let complete : take (i + 1) ps ≡ take i ps ++ p ∷ [] = take_more ps i p within ∙ ap (λ (q : Part). take i ps ++ q ∷ []) (sym at) in
     let blocks : flat_map part_blocks (take (i + 1) ps) ≡ flat_map part_blocks (take i ps) ++ part_blocks p =
-    ap (flat_map part_blocks) whole ∙ flat_map-append part_blocks (take i ps) (p ∷ [])
+    ap (flat_map part_blocks) complete ∙ flat_map-append part_blocks (take i ps) (p ∷ [])
     ∙ ap (λ (xs : List ℕ). flat_map part_blocks (take i ps) ++ xs) (append-nil (part_blocks p)) in
     more ∙ ap (λ (us : List (Option ℕ)). fold (give n) us (part_blocks p)) is
     ∙ sym (fold-append (give n) old (flat_map part_blocks (take i ps)) (part_blocks p))

@@ -5,7 +5,9 @@ use Rattle.lfs_fs.specs.Entry.{Entry}
 use Rattle.lfs_fs.specs.Path.{Path}
 use Rattle.lfs_fs.specs.Row.{Row}
 use Rattle.lfs_fs.specs.Listed.{Listed, rows_after}
-use Rattle.lfs_listing.specs.Difference.{changed, marked_line, marked_lines}
+use Rattle.lfs_json.specs.declared.form.Form.{Form}
+use Rattle.lfs_listing.specs.Difference.{changed, marked, rewritten}
+use Rattle.lfs_listing.specs.declared.mark.Mark.{Mark}
 
 -- the row at hand, which is at this path, and those that are listed behind it; nothing where none is at hand
 abbrev pub rows_ahead : Path → Option Listed → List Listed → List Row
@@ -17,18 +19,18 @@ abbrev pub first_entry : List Row → Option Entry
 first_entry [] = None
 first_entry (r ∷ rs) = Some r.entry
 
--- the lines of the first row, each with a mark in front
-abbrev pub first_marked : List ℕ → List Row → List ℕ
-first_marked mark [] = []
-first_marked mark (r ∷ rs) = marked_lines mark r
+-- what is said of the first row, which only one image has
+abbrev pub first_marked : Form → Mark → List Row → List ℕ
+first_marked form mark [] = []
+first_marked form mark (r ∷ rs) = marked form mark r
 
--- its own line alone, with a mark in front
-abbrev pub first_line : List ℕ → List Row → List ℕ
-first_line mark [] = []
-first_line mark (r ∷ rs) = marked_line mark r
+-- what is said of it where only its contents differ
+abbrev pub first_rewritten : Form → List Row → List ℕ
+first_rewritten form [] = []
+first_rewritten form (r ∷ rs) = rewritten form r
 
 -- what differs between the first rows
-abbrev pub first_changed : Disk → List Row → Disk → List Row → List ℕ
-first_changed d [] e bs = []
-first_changed d (a ∷ left) e [] = []
-first_changed d (a ∷ left) e (b ∷ bs) = changed d a e b
+abbrev pub first_changed : Form → Disk → List Row → Disk → List Row → List ℕ
+first_changed form d [] e bs = []
+first_changed form d (a ∷ left) e [] = []
+first_changed form d (a ∷ left) e (b ∷ bs) = changed form d a e b

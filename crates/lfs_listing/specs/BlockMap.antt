@@ -10,6 +10,11 @@ use Rattle.lfs_fs.specs.Entry.{Body, Inline, Chain, Directory_at, leads}
 use Rattle.lfs_fs.specs.Directory.{Part, Directory, parts, begins_at}
 use Rattle.lfs_fs.specs.Volume.{Volume}
 use Rattle.lfs_fs.specs.Row.{Row}
+use Rattle.lfs_json.specs.Line.{line_of}
+use Rattle.lfs_json.specs.declared.form.Form.{Form}
+use Rattle.lfs_json.specs.declared.form.Form.TheVariants.{Text, Json}
+use Rattle.lfs_listing.specs.Listing.{shown_byte}
+use Rattle.lfs_json.specs.Blocks.{json_of_run}
 
 -- the blocks of a part: those of its pair
 abbrev pub part_blocks : Part → List ℕ
@@ -69,10 +74,11 @@ user_words shown (Some r) = (if leads r.entry then codes " d " else codes " f ")
 abbrev pub user_row : List Row → Option ℕ → Option Row
 user_row rows u = option_and_then (slice_get rows) u
 
--- the line of a run
-abbrev pub run_line : (Option ℕ → List ℕ) → Run → List ℕ
-run_line words run = run_word run.first run.last ++ words run.user
+-- the line of a run, or its object as one line
+abbrev pub block_line : Form → List Row → Run → List ℕ
+block_line Text rows run = run_word run.first run.last ++ user_words shown_byte (user_row rows run.user)
+block_line Json rows run = line_of (json_of_run (user_row rows run.user) run.first run.last)
 
 -- the text: a line for each run
-abbrev pub block_map : (ℕ → List ℕ) → Volume → List Row → List ℕ
-block_map shown v rows = flat_map (run_line (λ u. user_words shown (user_row rows u))) (runs_from 0 (block_users v rows))
+abbrev pub block_map : Form → Volume → List Row → List ℕ
+block_map form v rows = flat_map (block_line form rows) (runs_from 0 (block_users v rows))

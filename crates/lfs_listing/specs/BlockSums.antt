@@ -5,7 +5,12 @@ use Rattle.std.specs.Option.{option_map_or}
 use Rattle.lfs_fs.specs.Path.{Path}
 use Rattle.lfs_fs.specs.Row.{Row}
 use Rattle.lfs_fs.specs.Volume.{Volume}
+use Rattle.lfs_json.specs.Line.{line_of}
+use Rattle.lfs_json.specs.declared.form.Form.{Form}
+use Rattle.lfs_json.specs.declared.form.Form.TheVariants.{Text, Json}
 use Rattle.lfs_listing.specs.BlockMap.{user_row, user_words, block_users}
+use Rattle.lfs_listing.specs.Listing.{shown_byte}
+use Rattle.lfs_json.specs.Blocks.{json_of_sum}
 
 -- whether a path is this one, or below it
 abbrev pub is_within : Path → Path → Bool
@@ -26,10 +31,11 @@ abbrev pub untaken : Volume → List Row → ℕ
 untaken v rows = count_by is_none (block_users v rows)
 
 -- the line of a row that takes so many blocks
-abbrev pub sum_line : (ℕ → List ℕ) → Option Row → ℕ → List ℕ
-sum_line shown r n = decimal n ++ user_words shown r
+abbrev pub sum_line : Form → Option Row → ℕ → List ℕ
+sum_line Text r n = decimal n ++ user_words shown_byte r
+sum_line Json r n = line_of (json_of_sum r n)
 
 -- the text: a line for each row, and one for the blocks that nothing takes
-abbrev pub block_sums : (ℕ → List ℕ) → Volume → List Row → List ℕ
-block_sums shown v rows =
-    flat_map (λ r. sum_line shown (Some r) (taken v rows r.path)) rows ++ sum_line shown None (untaken v rows)
+abbrev pub block_sums : Form → Volume → List Row → List ℕ
+block_sums form v rows =
+    flat_map (λ r. sum_line form (Some r) (taken v rows r.path)) rows ++ sum_line form None (untaken v rows)

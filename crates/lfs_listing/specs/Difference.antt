@@ -6,7 +6,13 @@ use Rattle.lfs_fs.specs.Entry.{Entry, leads}
 use Rattle.lfs_fs.specs.Tree.{Node, File, Dir}
 use Rattle.lfs_fs.specs.Row.{Row, path_precedes}
 use Rattle.lfs_fs.specs.RowShown.{shown_node}
+use Rattle.lfs_json.specs.Line.{line_of}
+use Rattle.lfs_json.specs.declared.form.Form.{Form}
+use Rattle.lfs_json.specs.declared.form.Form.TheVariants.{Text, Json}
 use Rattle.lfs_listing.specs.Listing.{attribute_line, entry_line}
+use Rattle.lfs_listing.specs.declared.mark.Mark.{Mark}
+use Rattle.lfs_listing.specs.declared.mark.Mark.TheVariants.{Removed, Added}
+use Rattle.lfs_json.specs.Rows.{json_of_change, json_of_contents}
 
 -- ---- whether two entries show the same
 
@@ -38,27 +44,47 @@ shows_same d a e b = same_node (shown_node d a) (shown_node e b)
 abbrev pub marked_lines : List ℕ → Row → List ℕ
 marked_lines mark r = mark ++ entry_line r.path r.entry ++ flat_map (λ a. mark ++ attribute_line a) r.entry.attributes
 
+-- what stands in front of the lines of a row that only one image has
+abbrev pub mark_text : Mark → List ℕ
+mark_text Removed = codes "- "
+mark_text Added = codes "+ "
+
+-- what its object says
+abbrev pub mark_word : Mark → List ℕ
+mark_word Removed = codes "removed"
+mark_word Added = codes "added"
+
+-- a row that only one image has: its lines, or its object as one line
+abbrev pub marked : Form → Mark → Row → List ℕ
+marked Text mark r = marked_lines (mark_text mark) r
+marked Json mark r = line_of (json_of_change (mark_word mark) r.path r.entry)
+
 -- of a row that only the first has
-abbrev pub removed : Row → List ℕ
-removed r = marked_lines (codes "- ") r
+abbrev pub removed : Form → Row → List ℕ
+removed form r = marked form Removed r
 
 -- of a row that only the second has
-abbrev pub added : Row → List ℕ
-added r = marked_lines (codes "+ ") r
+abbrev pub added : Form → Row → List ℕ
+added form r = marked form Added r
 
 -- the line of a row with a mark in front, without its attributes
 abbrev pub marked_line : List ℕ → Row → List ℕ
 marked_line mark r = mark ++ entry_line r.path r.entry
+
+-- a file of which only the contents differ
+abbrev pub rewritten : Form → Row → List ℕ
+rewritten Text r = marked_line (codes "~ ") r
+rewritten Json r = line_of (json_of_contents (codes "contents") r.path r.entry)
 
 -- two files with the same attributes: only their contents can differ
 abbrev pub are_alike : Entry → Entry → Bool
 are_alike a b = not (leads a) && (not (leads b) && same_attributes a.attributes b.attributes)
 
 -- what differs at a path that both have: nothing, or of files their contents alone, which the second's line says
-abbrev pub changed : Disk → Row → Disk → Row → List ℕ
-changed d a e b =
+abbrev pub changed : Form → Disk → Row → Disk → Row → List ℕ
+changed form d a e b =
     if shows_same d a.entry e b.entry then []
-    else (if are_alike a.entry b.entry then marked_line (codes "~ ") b else removed a ++ added b)
+    else (if are_alike a.entry b.entry then rewritten form b else removed form a ++ added form b)
 
 -- whether a text has any byte
 abbrev pub is_some_text : List ℕ → Bool
@@ -68,13 +94,13 @@ is_some_text (byte ∷ bytes) = true
 -- ---- rows
 
 -- what differs from a row of the first on, where `rest` says what differs behind it: in the order of paths
-abbrev pub difference_at : Disk → Disk → Row → (List Row → List ℕ) → List Row → List ℕ
-difference_at d e a rest [] = removed a ++ rest []
-difference_at d e a rest (b ∷ bs) =
-    if path_precedes b.path a.path then added b ++ difference_at d e a rest bs
-    else (if path_precedes a.path b.path then removed a ++ rest (b ∷ bs) else changed d a e b ++ rest bs)
+abbrev pub difference_at : Form → Disk → Disk → Row → (List Row → List ℕ) → List Row → List ℕ
+difference_at form d e a rest [] = removed form a ++ rest []
+difference_at form d e a rest (b ∷ bs) =
+    if path_precedes b.path a.path then added form b ++ difference_at form d e a rest bs
+    else (if path_precedes a.path b.path then removed form a ++ rest (b ∷ bs) else changed form d a e b ++ rest bs)
 
 -- what differs between the rows of two disks: nothing where both show the same at the same paths
-abbrev pub difference : Disk → List Row → Disk → List Row → List ℕ
-difference d [] e bs = flat_map added bs
-difference d (a ∷ left) e bs = difference_at d e a (difference d left e) bs
+abbrev pub difference : Form → Disk → List Row → Disk → List Row → List ℕ
+difference form d [] e bs = flat_map (added form) bs
+difference form d (a ∷ left) e bs = difference_at form d e a (difference form d left e) bs

@@ -6,7 +6,9 @@ pub mod BlockUses
 pub mod Buffer
 pub mod Comparing
 pub mod Difference
+pub mod Digests
 pub mod DirectoryNumbers
+pub mod Forms
 pub mod Listing
 pub mod Order
 pub mod Runs

@@ -2,8 +2,8 @@
 use Rattle.std.specs.Prelude.{◌≡◌, ◌+◌, ◌<◌, ◌≤◌, ℕ, nat_lt, Bool, false, Option, None, Some, List, [], ◌∷◌, ◌++◌, if◌then◌else◌, count_by, drop, length, set, slice_index}
 use Rattle.std.specs.Option.{option_map_or}
 use Rattle.lfs_fs.specs.Row.{Row}
+use Rattle.lfs_json.specs.declared.form.Form.{Form}
 use Rattle.lfs_listing.specs.BlockSums.{sum_line}
-use Rattle.lfs_listing.specs.Listing.{shown_byte}
 
 -- the sum of the counts whose numbers pass, of which the first has this number
 abbrev pub weigh : (ℕ → Bool) → ℕ → List ℕ → ℕ
@@ -48,6 +48,6 @@ pub record AreSummed (depths counts sums nexts : List ℕ) (from : ℕ) : Type 0
   pub behind : (i : ℕ) → from ≤ i → i < length depths → IsNext depths i (slice_index nexts i)
 
 -- the lines of rows that take so many blocks, or none where no number is left
-abbrev pub sum_lines : List Row → List ℕ → List ℕ
-sum_lines [] sums = []
-sum_lines (r ∷ rs) sums = sum_line shown_byte (Some r) (slice_index sums 0) ++ sum_lines rs (drop 1 sums)
+abbrev pub sum_lines : Form → List Row → List ℕ → List ℕ
+sum_lines form [] sums = []
+sum_lines form (r ∷ rs) sums = sum_line form (Some r) (slice_index sums 0) ++ sum_lines form rs (drop 1 sums)

@@ -4,10 +4,12 @@ ghost use Rattle.std.specs.Prelude.{◌≡◌, IfOk, map};
 ghost use Rattle.lfs_fs.specs.Listed.{rows_after};
 ghost use Rattle.lfs_listing.specs.Ahead.{rows_ahead};
 
-use crate::marking::{append_marked, append_marked_entry};
+use crate::mark::Mark;
+use crate::marking::{append_marked, append_rewritten};
 use crate::order::order_of;
 use crate::paths::follow_row;
 use lfs_fs::{Row, Rows};
+use lfs_json::Form;
 use std::alloc::{AllocError, Global};
 use std::cmp::Ordering;
 use std::marker::Model;
@@ -49,7 +51,7 @@ impl<'a> Ahead<'a> {
     ghost use Rattle.std.specs.Prelude.{◌≡◌, ◌++◌, ◌==◌, IfOk, OnOk, drop, false, length};
     ghost use Rattle.std.specs.Option.{option_map};
     ghost use Rattle.lfs_fs.specs.Listed.{rows_listed};
-    ghost use Rattle.lfs_listing.specs.Ahead.{first_entry, first_line, first_marked};
+    ghost use Rattle.lfs_listing.specs.Ahead.{first_entry, first_marked, first_rewritten};
     ghost use Rattle.lfs_listing.specs.Order.{rows_order};
 
     /// All rows.
@@ -62,21 +64,21 @@ impl<'a> Ahead<'a> {
         Ok(Ahead { path, row, later })
     }
 
-    /// Whether none is left. Takes no memory.
+    /// Whether none is left.
     pub(crate) fn is_empty(&self) -> bool
         ensures { result ≡ (length self.now == 0) }
     {
         self.row.is_none()
     }
 
-    /// The first one. Takes no memory.
+    /// The first one.
     pub(crate) fn first(&self) -> Option<&Row<'a>>
         ensures { option_map (λ r. r.now.entry) result ≡ first_entry self.now }
     {
         self.row.as_ref()
     }
 
-    /// Whose first row comes before that of the other. Takes no memory.
+    /// Whose first row comes before that of the other.
     pub(crate) fn order(&self, other: &Ahead<'_>) -> Ordering
         ensures { result ≡ rows_order self.now other.now }
     {
@@ -87,27 +89,38 @@ impl<'a> Ahead<'a> {
         }
     }
 
-    /// Adds the lines of the first one, each with a mark in front.
-    pub(crate) fn append_first(&self, text: &mut Vec<u8>, mark: &[u8]) -> Result<(), AllocError>
-        ensures { OnOk result (text.new.items ≡ text.old.items ++ first_marked mark.now self.now) }
+    /// Adds what is said of the first one, which only one image has.
+    pub(crate) fn append_first(
+        &self,
+        alloc: Global,
+        form: Form,
+        text: &mut Vec<u8>,
+        mark: Mark,
+    ) -> Result<(), AllocError>
+        ensures { OnOk result (text.new.items ≡ text.old.items ++ first_marked form mark self.now) }
     {
         match &self.row {
-            Some(row) => append_marked(text, mark, &self.path, row),
+            Some(row) => append_marked(alloc, form, text, mark, &self.path, row),
             None => Ok(()),
         }
     }
 
-    /// Adds the line of the first one, without its attributes, with a mark in front.
-    pub(crate) fn append_line(&self, text: &mut Vec<u8>, mark: &[u8]) -> Result<(), AllocError>
-        ensures { OnOk result (text.new.items ≡ text.old.items ++ first_line mark.now self.now) }
+    /// Adds what is said of the first one where only its contents differ.
+    pub(crate) fn append_contents(
+        &self,
+        alloc: Global,
+        form: Form,
+        text: &mut Vec<u8>,
+    ) -> Result<(), AllocError>
+        ensures { OnOk result (text.new.items ≡ text.old.items ++ first_rewritten form self.now) }
     {
         match &self.row {
-            Some(row) => append_marked_entry(text, mark, &self.path, row),
+            Some(row) => append_rewritten(alloc, form, text, &self.path, row),
             None => Ok(()),
         }
     }
 
-    /// Leaves the first one behind. The caller owes that one is left.
+    /// Leaves the first one behind.
     pub(crate) fn advance(&mut self) -> Result<(), AllocError>
         requires { (length self.old == 0) ≡ false }
         ensures { OnOk result (self.new ≡ drop 1 self.old) }

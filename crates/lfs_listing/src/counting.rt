@@ -28,8 +28,7 @@ fn count_each(counts: &mut [u32], users: &[Option<usize>])
     }
 }
 
-/// How many blocks each of so many rows has, of blocks with these rows. The caller owes that each block has one of these rows or none,
-/// and that there are fewer than 2^32.
+/// How many blocks each of so many rows has, of blocks with these rows.
 pub(crate) fn counts_of(
     alloc: Global,
     users: &[Option<usize>],
@@ -44,7 +43,7 @@ pub(crate) fn counts_of(
     Ok(counts)
 }
 
-/// How many blocks have no row. Takes no memory.
+/// How many blocks have no row.
 pub(crate) fn untaken_of(users: &[Option<usize>]) -> usize
     ensures { result ≡ count_by is_none users.now }
 {

@@ -12,7 +12,7 @@ use lfs_fs::{Outline, OutlineDirectory};
 use std::alloc::{AllocError, Global};
 use std::marker::Model;
 
-/// The lesser block of the first pair of a directory. Takes no memory.
+/// The lesser block of the first pair of a directory.
 fn key_block(directory: &OutlineDirectory) -> u32
     ensures { result ≡ key_block directory.now }
 {
@@ -20,7 +20,7 @@ fn key_block(directory: &OutlineDirectory) -> u32
     if first <= second { first } else { second }
 }
 
-/// Notes where a directory stands, under the lesser block of its first pair. Takes no memory.
+/// Notes where a directory stands, under the lesser block of its first pair.
 fn note(numbers: &mut [Option<usize>], directory: &OutlineDirectory, number: usize)
     ensures { numbers.new ≡ set numbers.old (key_block directory.now) (Some number) }
 {
@@ -50,7 +50,7 @@ fn numbers_of(alloc: Global, outline: &Outline) -> Result<Vec<Option<usize>>, Al
     Ok(numbers)
 }
 
-/// A pair as a set: the lesser block first. Takes no memory.
+/// A pair as a set: the lesser block first.
 fn unordered(first: u32, second: u32) -> (u32, u32)
     ensures { result ≡ unordered (first, second) }
 {
@@ -61,7 +61,7 @@ fn unordered(first: u32, second: u32) -> (u32, u32)
     }
 }
 
-/// The number at a block, if there is one. Takes no memory.
+/// The number at a block, if there is one.
 fn number_at(numbers: &[Option<usize>], block: u32) -> Option<usize>
     ensures { result ≡ option_flatten (slice_get numbers.now block) }
 {
@@ -71,7 +71,7 @@ fn number_at(numbers: &[Option<usize>], block: u32) -> Option<usize>
     }
 }
 
-/// The directory of a number. Takes no memory.
+/// The directory of a number.
 fn numbered<'a>(
     directories: &'a [OutlineDirectory],
     number: Option<usize>,
@@ -81,7 +81,7 @@ fn numbered<'a>(
     directories.get(number?)
 }
 
-/// A directory, if it begins at a pair, the lesser block first. Takes no memory.
+/// A directory, if it begins at a pair, the lesser block first.
 fn begun_at<'a>(directory: &'a OutlineDirectory, pair: (u32, u32)) -> Option<&'a OutlineDirectory>
     ensures { option_map (λ d. d.now) result ≡ (if begins_at pair directory.now then Some directory.now else None) }
 {
@@ -118,7 +118,7 @@ impl<'a> NumberedDirectories<'a> {
     ghost use Rattle.lfs_fs.specs.Pair.{unordered};
     ghost use Rattle.lfs_fs.specs.Sound.{IsSound};
 
-    /// Those of an outline. The caller owes that it is sound, so that no block has two uses.
+    /// Those of an outline.
     pub(crate) fn new(
         alloc: Global,
         outline: &'a Outline,
@@ -133,7 +133,7 @@ impl<'a> NumberedDirectories<'a> {
         })
     }
 
-    /// The directory that begins at a pair, in either order. Takes no memory.
+    /// The directory that begins at a pair, in either order.
     pub(crate) fn find(&self, first: u32, second: u32) -> Option<&OutlineDirectory>
         ensures { option_map (λ d. d.now) result ≡ find (begins_at (unordered (first, second))) self.now }
     {

@@ -21,8 +21,6 @@ fn append_shown(text: &mut Vec<u8>, byte: u8) -> Result<(), AllocError>
 
 /// Adds bytes as a listing shows them: a printable one of ASCII other than the backslash as itself, and `\x` with two digits for
 /// each other one.
-///
-/// Source: own.
 pub fn append_all_shown(text: &mut Vec<u8>, bytes: &[u8]) -> Result<(), AllocError>
     ensures { OnOk result (text.new.items ≡ text.old.items ++ flat_map shown_byte bytes.now) }
 {

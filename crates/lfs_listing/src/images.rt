@@ -35,10 +35,10 @@ impl<'a, A: Blocks, B: Blocks> Images<'a, A, B> {
     ghost use Rattle.lfs_fs.specs.Entry.{Chain};
     ghost use Rattle.lfs_fs.specs.Outlined.{blank};
     ghost use Rattle.lfs_fs.specs.RowHeld.{row_body_held};
-    ghost use Rattle.lfs_listing.specs.Comparing.{IsWhole, Leads, contents_of, same_contents};
+    ghost use Rattle.lfs_listing.specs.Comparing.{IsComplete, Leads, contents_of, same_contents};
     ghost use Rattle.lfs_listing.specs.Difference.{shows_same};
 
-    /// Two images. The caller owes that the patch leads from the first to the second. Takes no memory.
+    /// Two images.
     pub(crate) fn new(first: &'a A, second: &'a B, between: Option<&'a Patch>) -> Images<'a, A, B>
         requires { IfSome between (λ p. Leads p.now (A.disk first.now) (B.disk second.now)) }
         ensures { result ≡ (A.disk first.now, B.disk second.now) }
@@ -51,7 +51,7 @@ impl<'a, A: Blocks, B: Blocks> Images<'a, A, B> {
     }
 
     /// Whether the blocks of two files are the same, and are known to hold the same on both: the patch between the two names none
-    /// of them. The caller owes that they are on the first. Takes no memory.
+    /// of them.
     fn keeps(&self, blocks: &[u32], others: &[u32]) -> bool
         requires { All (λ b. b < self.now.0.count) blocks.now }
         ensures { result ≡ true → (size : ℕ) → content self.now.0 size blocks.now ≡ content self.now.1 size others.now }
@@ -65,11 +65,10 @@ impl<'a, A: Blocks, B: Blocks> Images<'a, A, B> {
         blocks == others && names_none(patch.records(), blocks)
     }
 
-    /// Whether two files of `size` bytes have the same contents. They are read only where the blocks may hold others. The caller owes
-    /// that both can be read. Takes no memory.
+    /// Whether two files of `size` bytes have the same contents. They are read only where the blocks may hold others.
     fn have_same_contents(&self, blocks: &[u32], others: &[u32], size: u32) -> bool
-        requires first { IsWhole self.now.0 (Chain blocks.now (blank size)) }
-        requires second { IsWhole self.now.1 (Chain others.now (blank size)) }
+        requires first { IsComplete self.now.0 (Chain blocks.now (blank size)) }
+        requires second { IsComplete self.now.1 (Chain others.now (blank size)) }
         ensures { result ≡ bytes_eq (content self.now.0 size blocks.now) (content self.now.1 size others.now) }
     {
         if self.keeps(blocks, others) {
@@ -79,10 +78,10 @@ impl<'a, A: Blocks, B: Blocks> Images<'a, A, B> {
         begins_with(&mut unread, self.first, blocks, size)
     }
 
-    /// Whether two bodies are files with the same contents, or directories. The caller owes that both can be read. Takes no memory.
+    /// Whether two bodies are files with the same contents, or directories.
     fn have_same_bodies(&self, body: &RowBody<'_>, other: &RowBody<'_>) -> bool
-        requires first { IsWhole self.now.0 (row_body_held body.now) }
-        requires second { IsWhole self.now.1 (row_body_held other.now) }
+        requires first { IsComplete self.now.0 (row_body_held body.now) }
+        requires second { IsComplete self.now.1 (row_body_held other.now) }
         ensures { result ≡ same_contents (contents_of self.now.0 (row_body_held body.now))
             (contents_of self.now.1 (row_body_held other.now)) }
     {
@@ -106,10 +105,10 @@ impl<'a, A: Blocks, B: Blocks> Images<'a, A, B> {
         }
     }
 
-    /// Whether two rows, one of each image, show the same. The caller owes that both can be read. Takes no memory.
+    /// Whether two rows, one of each image, show the same.
     pub(crate) fn show_same(&self, row: &Row<'_>, other: &Row<'_>) -> bool
-        requires first { IsWhole self.now.0 row.now.entry.body }
-        requires second { IsWhole self.now.1 other.now.entry.body }
+        requires first { IsComplete self.now.0 row.now.entry.body }
+        requires second { IsComplete self.now.1 other.now.entry.body }
         ensures { result ≡ shows_same self.now.0 row.now.entry self.now.1 other.now.entry }
     {
         self.have_same_bodies(&row.body, &other.body)

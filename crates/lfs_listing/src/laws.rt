@@ -8,10 +8,7 @@ use lfs_fs::{
     rows_show_the_tree,
 };
 
-/// A law: a block of a mounted image has no user just where nothing uses it, and there are as many of these blocks as free ones. Takes no
-/// memory.
-///
-/// Source: own.
+/// A law: a block of a mounted image has no user just where nothing uses it, and there are as many of these blocks as free ones.
 pub fn users_are_uses()
     ensures users { UsersAreUses }
     ensures free { UntakenAreFree }
@@ -20,9 +17,7 @@ pub fn users_are_uses()
 }
 
 /// A law: nothing differs between two images that mount if and only if their trees have the same at every path: a directory or a file
-/// with the same bytes, and the same attributes. Takes no memory.
-///
-/// Source: own.
+/// with the same bytes, and the same attributes.
 pub fn differences_show_trees()
     ensures { DifferencesAreEmptyOfEqualTrees }
 {

@@ -5,7 +5,7 @@ ghost use Rattle.lfs_block.specs.Change.{IsRising, change_of};
 
 use lfs_block::Record;
 
-/// Whether one of the changes, whose numbers rise, is of block `n`. Takes no memory.
+/// Whether one of the changes, whose numbers rise, is of block `n`.
 fn names(records: &[Record], n: u32) -> bool
     requires { IsRising records.now }
     ensures { result ≡ is_some (change_of n records.now) }
@@ -17,7 +17,7 @@ fn names(records: &[Record], n: u32) -> bool
     }
 }
 
-/// Whether none of the changes, whose numbers rise, is of one of these blocks. Takes no memory.
+/// Whether none of the changes, whose numbers rise, is of one of these blocks.
 pub(crate) fn names_none(records: &[Record], blocks: &[u32]) -> bool
     requires { IsRising records.now }
     ensures { result ≡ true → All (λ b. change_of b records.now ≡ None) blocks.now }

@@ -6,7 +6,7 @@ ghost use Rattle.lfs_listing.specs.Order.{name_order, path_order};
 use lfs_fs::{names_are_ordered, precedes};
 use std::cmp::Ordering;
 
-/// Which of two names that differ comes first. Takes no memory.
+/// Which of two names that differ comes first.
 fn name_order(left: &[u8], right: &[u8]) -> Ordering
     requires { left.now ≢ right.now }
     ensures { result ≡ name_order left.now right.now }
@@ -19,9 +19,7 @@ fn name_order(left: &[u8], right: &[u8]) -> Ordering
     }
 }
 
-/// Which of two paths comes first: one before its extensions, else by the first names in which they differ. Takes no memory.
-///
-/// Source: own.
+/// Which of two paths comes first: one before its extensions, else by the first names in which they differ.
 pub fn order_of(left: &[&[u8]], right: &[&[u8]]) -> Ordering
     ensures { result ≡ path_order (map (λ n. n.now) left.now) (map (λ n. n.now) right.now) }
 {

@@ -10,8 +10,6 @@ use lfs_fs::{Row, follow};
 use std::alloc::AllocError;
 
 /// Turns the path of a row into that of the next one. Want of memory is the only refusal.
-///
-/// Source: own.
 pub fn follow_row<'a>(path: &mut Vec<&'a [u8]>, next: &Row<'a>) -> Result<(), AllocError>
     ensures { OnOk result (map (λ n. n.now) path.new.items
         ≡ path_after (map (λ n. n.now) path.old.items) next.now.depth next.now.entry.name) }

@@ -4,14 +4,13 @@ ghost use Rattle.std.specs.Prelude.{◌≡◌, ◌<◌, ◌≤◌, All, bytes_eq
 ghost use Rattle.lfs_file.specs.Content.{content};
 ghost use Rattle.lfs_fs.specs.Entry.{Chain};
 ghost use Rattle.lfs_fs.specs.Outlined.{blank};
-ghost use Rattle.lfs_listing.specs.Comparing.{IsWhole, TakesOff};
+ghost use Rattle.lfs_listing.specs.Comparing.{IsComplete, TakesOff};
 
 use crate::unread::Unread;
 use lfs_block::Blocks;
 use lfs_file::read_file;
 
-/// Whether what is unread begins with the contents of a file of `size` bytes in these blocks, which are taken off then. The caller
-/// owes that the blocks are on the disk, and no more than it has. Takes no memory.
+/// Whether what is unread begins with the contents of a file of `size` bytes in these blocks, which are taken off then.
 pub(crate) fn begins_with<A: Blocks, B: Blocks>(
     unread: &mut Unread<'_, B>,
     disk: &A,
@@ -30,12 +29,9 @@ pub(crate) fn begins_with<A: Blocks, B: Blocks>(
     true
 }
 
-/// Whether a file of `size` bytes in these blocks has these contents: where their length is another one, nothing is read. The caller owes
-/// that it can be read. Takes no memory.
-///
-/// Source: own.
+/// Whether a file of `size` bytes in these blocks has these contents: where their length is another one, nothing is read.
 pub fn has_contents<A: Blocks>(disk: &A, blocks: &[u32], size: u32, bytes: &[u8]) -> bool
-    requires { IsWhole (A.disk disk.now) (Chain blocks.now (blank size)) }
+    requires { IsComplete (A.disk disk.now) (Chain blocks.now (blank size)) }
     ensures { result ≡ bytes_eq (content (A.disk disk.now) size blocks.now) bytes.now }
 {
     if size as usize != bytes.len() {

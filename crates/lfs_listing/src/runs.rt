@@ -2,16 +2,17 @@
 
 ghost use Rattle.std.specs.Prelude.{◌≡◌, ◌<◌, ◌+◌, ◌++◌, None, OnOk, decimal, false, flat_map, length, nat_eq, not, slice_index_or};
 ghost use Rattle.std.specs.Result.{result_err};
-ghost use Rattle.lfs_listing.specs.BlockMap.{run_line, run_word, runs_from};
+ghost use Rattle.lfs_listing.specs.BlockMap.{run_word, runs_from};
 ghost use Rattle.lfs_listing.specs.Runs.{goes_on};
 ghost use Rattle.lfs_listing.specs.Unsent.{SendsListing, blames_sink};
-ghost use Rattle.lfs_listing.specs.Using.{user_end};
+ghost use Rattle.lfs_listing.specs.Using.{part_line, part_of, run_line};
 
 use crate::buffer::{send_if_full, send_rest};
-use crate::row_ends::RowEnds;
+use crate::row_parts::RowParts;
 use crate::unsent::Unsent;
 use itoa::Buffer;
-use lfs_sink::Sink;
+use lfs_host::Sink;
+use lfs_json::{Form, append_json_run};
 use std::alloc::{AllocError, Global};
 
 /// Adds a number.
@@ -33,15 +34,29 @@ fn append_run(text: &mut Vec<u8>, first: usize, last: usize) -> Result<(), Alloc
     append_number(text, last)
 }
 
-/// Adds the line of a run, by its end.
-fn append_line(text: &mut Vec<u8>, first: usize, last: usize, end: &[u8]) -> Result<(), AllocError>
-    ensures { OnOk result (text.new.items ≡ text.old.items ++ (run_word first last ++ end.now)) }
+/// Adds the line of a run, by what is said of its user.
+fn append_line(
+    form: Form,
+    text: &mut Vec<u8>,
+    first: usize,
+    last: usize,
+    part: &[u8],
+) -> Result<(), AllocError>
+    ensures { OnOk result (text.new.items ≡ text.old.items ++ part_line form first last part.now) }
 {
-    append_run(text, first, last)?;
-    text.extend_from_slice(end)
+    match form {
+        Form::Text => {
+            append_run(text, first, last)?;
+            text.extend_from_slice(part)
+        }
+        Form::Json => {
+            text.extend_from_slice(part)?;
+            append_json_run(text, first, last)
+        }
+    }
 }
 
-/// Whether the next block has the same user. Takes no memory.
+/// Whether the next block has the same user.
 fn goes_on(users: &[Option<usize>], block: usize) -> bool
     requires { block < length users.now }
     ensures { result ≡ goes_on users.now block }
@@ -52,16 +67,17 @@ fn goes_on(users: &[Option<usize>], block: usize) -> bool
     }
 }
 
-/// Sends a line for each run of blocks of one user. The caller owes that the sink has not failed before.
+/// Sends a line for each run of blocks of one user.
 pub(crate) fn send_runs<S: Sink>(
     alloc: Global,
+    form: Form,
     users: &[Option<usize>],
-    ends: &RowEnds,
+    parts: &RowParts,
     out: &mut S,
 ) -> Result<(), Unsent>
     requires { S.failed out.old ≡ false }
     ensures sent { SendsListing (result_err result) (S.sent out.old) (S.sent out.new)
-        (flat_map (run_line (user_end ends.now)) (runs_from 0 users.now)) }
+        (flat_map (run_line form (part_of form parts.now)) (runs_from 0 users.now)) }
     ensures failed { S.failed out.new ≡ blames_sink (result_err result) }
     ensures kept { S.kept out.new ≡ S.kept out.old }
 {
@@ -71,7 +87,7 @@ pub(crate) fn send_runs<S: Sink>(
         if goes_on(users, block) {
             continue;
         }
-        append_line(&mut text, first, block, ends.of_user(user))?;
+        append_line(form, &mut text, first, block, parts.of_user(form, user))?;
         send_if_full(&mut text, out)?;
         first = block + 1;
     }

@@ -48,8 +48,7 @@ fn sum_each(depths: &[usize], counts: &[u32], sums: &mut [u32], nexts: &mut [usi
     }
 }
 
-/// How many blocks rows take with those below them, where this is how deep they are, and how many each of them has. The caller owes as
-/// many counts as depths, and fewer than 2^32 blocks.
+/// How many blocks rows take with those below them, where this is how deep they are, and how many each of them has.
 pub(crate) fn sums_of(
     alloc: Global,
     depths: &[usize],

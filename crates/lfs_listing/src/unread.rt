@@ -27,7 +27,7 @@ impl<'a, B: Blocks> Unread<'a, B> {
     ghost use Rattle.lfs_file.specs.Content.{content};
     ghost use Rattle.lfs_listing.specs.Comparing.{TakesOff};
 
-    /// The bytes of a file that stand in its entry. Takes no memory.
+    /// The bytes of a file that stand in its entry.
     pub(crate) fn of_bytes(disk: &'a B, bytes: &'a [u8]) -> Unread<'a, B>
         ensures { result ≡ bytes.now }
     {
@@ -37,8 +37,7 @@ impl<'a, B: Blocks> Unread<'a, B> {
         }
     }
 
-    /// The bytes of a file of `size` bytes in these blocks. The caller owes that the blocks are on the disk, and no more than it
-    /// has. Takes no memory.
+    /// The bytes of a file of `size` bytes in these blocks.
     pub(crate) fn of_chain(disk: &'a B, blocks: &'a [u32], size: u32) -> Unread<'a, B>
         requires below { All (λ b. b < (B.disk disk.now).count) blocks.now }
         requires few { length blocks.now ≤ (B.disk disk.now).count }
@@ -50,7 +49,7 @@ impl<'a, B: Blocks> Unread<'a, B> {
         }
     }
 
-    /// Whether they begin with these, which are taken off then. Takes no memory.
+    /// Whether they begin with these, which are taken off then.
     pub(crate) fn takes(&mut self, bytes: &[u8]) -> bool
         ensures { TakesOff result self.old self.new bytes.now }
     {

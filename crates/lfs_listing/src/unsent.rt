@@ -3,8 +3,6 @@
 use std::alloc::AllocError;
 
 /// Why a listing does not go out whole.
-///
-/// Source: own.
 #[derive(Clone, Copy, Debug, PartialEq, Eq)]
 pub enum Unsent {
     /// A growth of memory was refused.

@@ -52,8 +52,7 @@ fn give_directory(users: &mut [Option<usize>], directory: &OutlineDirectory, num
     give_parts(users, &directory.parts.more, number);
 }
 
-/// Notes a row by its number for the blocks that it has, where none is noted yet: those of its directory, or of its file's chain. Takes
-/// no memory.
+/// Notes a row by its number for the blocks that it has, where none is noted yet: those of its directory, or of its file's chain.
 pub(crate) fn give_row(
     users: &mut [Option<usize>],
     directories: &NumberedDirectories<'_>,

@@ -12,7 +12,7 @@ use Rattle.lfs_block.specs.declared.mount_fault.MountFault.{MountFault}
 use Rattle.lfs_block.specs.declared.mount_fault.MountFault.TheVariants.{BlockRange, BlockTwice}
 use Rattle.lfs_meta.specs.Body.{Pair}
 use Rattle.lfs_meta.specs.Part.{StoredPart}
-use Rattle.lfs_meta.specs.Whole.{IsWhole}
+use Rattle.lfs_meta.specs.Complete.{IsComplete}
 use Rattle.lfs_fs.specs.Pair.{root}
 use Rattle.lfs_fs.specs.Front.{pairs_name}
 use Rattle.lfs_fs.specs.Gathering.{PairPart}
@@ -133,18 +133,18 @@ gathered_none r used parts marks none = record {
   marks = λ b. ap (λ (u : List Bool). marked u b) marks ∙ marked_nothing r.count b;
   enough = let all = ap unmarked marks ∙ unmarked_all r.count in omega arith;
   left = ap (λ (ps : List PairPart). ps ++ parts_held r (superblock_pairs r)) none;
-  whole = rw none (All-nil (λ (p : PairPart). AllByRecursion IsWhole p.1.entries));
+  complete = rw none (All-nil (λ (p : PairPart). AllByRecursion IsComplete p.1.entries));
 }
 
 module _ (r : Reading) (used : List Bool) (parts : List PairPart) (p : Pair) where
   held_more : (new : List Bool) (s : StoredPart) (before : List Pair) (n : ℕ) → length used ≡ r.count
       → Marks used (λ b. pairs_name b before) → unmarked used ≤ n
       → parts ++ parts_held r (pairs_along (lead r) r.count before n (Some p)) ≡ parts_held r (superblock_pairs r)
-      → All (λ q. AllByRecursion IsWhole q.1.entries) parts
-      → AddsBlocks used new (p.0 ∷ p.1 ∷ []) → r.part p ≡ Some s → AllByRecursion IsWhole s.entries
+      → All (λ q. AllByRecursion IsComplete q.1.entries) parts
+      → AddsBlocks used new (p.0 ∷ p.1 ∷ []) → r.part p ≡ Some s → AllByRecursion IsComplete s.entries
       → IsGathered r new (parts ++ (p, s) ∷ []) (lead_by s.tail (behind_superblock s.entries))
-  held_more new s before zero len marks enough left whole adds read one = let fewer = adds.fewer in absurd (omega arith)
-  held_more new s before (suc n) len marks enough left whole adds read one =
+  held_more new s before zero len marks enough left complete adds read one = let fewer = adds.fewer in absurd (omega arith)
+  held_more new s before (suc n) len marks enough left complete adds read one =
       let fresh = is_fresh_is r.count before p (fresh_pair r used new before p len marks adds) in
       let from = lead_by s.tail (behind_superblock s.entries) in
       let rest = pairs_along (lead r) r.count (before ++ p ∷ []) n from in
@@ -159,14 +159,14 @@ module _ (r : Reading) (used : List Bool) (parts : List PairPart) (p : Pair) whe
         enough = let fewer = adds.fewer in omega arith;
         left = append_assoc parts ((p, s) ∷ []) (parts_held r rest)
             ∙ ap (λ (ps : List PairPart). parts ++ ps) (sym (ap (parts_held r) along ∙ held_some r p rest s read)) ∙ left;
-        whole = All-push (λ (q : PairPart). AllByRecursion IsWhole q.1.entries) parts (p, s) whole one;
+        complete = All-push (λ (q : PairPart). AllByRecursion IsComplete q.1.entries) parts (p, s) complete one;
       }
 
   -- one part more
   pub gathered_more : (new : List Bool) (s : StoredPart) → IsGathered r used parts (Some p) → AddsBlocks used new (p.0 ∷ p.1 ∷ [])
-      → r.part p ≡ Some s → AllByRecursion IsWhole s.entries
+      → r.part p ≡ Some s → AllByRecursion IsComplete s.entries
       → IsGathered r new (parts ++ (p, s) ∷ []) (lead_by s.tail (behind_superblock s.entries))
-  gathered_more new s h adds read one = held_more new s h.before h.n h.len h.marks h.enough h.left h.whole adds read one
+  gathered_more new s h adds read one = held_more new s h.before h.n h.len h.marks h.enough h.left h.complete adds read one
 
   -- all parts are gathered where the pair can't be marked
   pub gathered_taken : (fault : MountFault) → IsGathered r used parts (Some p) → AreTaken fault used (p.0 ∷ p.1 ∷ [])

@@ -23,7 +23,7 @@ use Rattle.lfs_lower.specs.OneSuperblock.{all_can, can_be_put, can_join, joined,
 use Rattle.lfs_lower.proofs.FreshPairs.{AreFresh, along_fresh}
 use Rattle.lfs_lower.proofs.GatheredParts.{held_none, held_some}
 use Rattle.lfs_lower.proofs.JoinedParts.{joined_part, last_is, led_is}
-use Rattle.lfs_lower.proofs.JoinedWhole.{AreWhole}
+use Rattle.lfs_lower.proofs.JoinedComplete.{AreComplete}
 use Rattle.lfs_lower.proofs.PartsPut.{pair_in, pairs_in}
 
 -- ---- the test
@@ -129,8 +129,8 @@ to_be_named d b =
 to_be_once : (d : Disk) (b : ℕ) → pairs_name b (pairs_in (parts_to_be d)) ≤ 1
 to_be_once d b = let fewer = to_be_named d b in let once = (pairs_fresh d).once b in omega arith
 
-can_put_one : (d : Disk) (p : PairPart) → Contains (parts_to_be d) p → AreWhole p → can_be_put d.size d.count p.1 ≡ true → CanPut d p
-can_put_one d p there whole can =
+can_put_one : (d : Disk) (p : PairPart) → Contains (parts_to_be d) p → AreComplete p → can_be_put d.size d.count p.1 ≡ true → CanPut d p
+can_put_one d p there complete can =
     let fresh = pairs_fresh d in
     let first_in = pair_in p.0.0 (parts_to_be d) p there in
     let second_in = pair_in p.0.1 (parts_to_be d) p there in
@@ -141,15 +141,15 @@ can_put_one d p there whole can =
       apart = grind (arith, nat_tests);
       first = fresh.within p.0.0 (grind (arith, nat_tests));
       second = fresh.within p.0.1 (grind (arith, nat_tests));
-      whole = whole;
+      complete = complete;
       can = can;
     }
 
-can_put_all : (d : Disk) (parts : List PairPart) → parts ≡ parts_to_be d → All AreWhole parts
+can_put_all : (d : Disk) (parts : List PairPart) → parts ≡ parts_to_be d → All AreComplete parts
     → list_all (λ p. can_be_put d.size d.count p.1) parts ≡ true → All (CanPut d) parts
-can_put_all d parts is whole can =
+can_put_all d parts is complete can =
     All-weaker (Contains parts) (CanPut d)
-    (λ p there. can_put_one d p (subst (λ (ps : List PairPart). Contains ps p) is there) (All-contains AreWhole parts p whole there)
+    (λ p there. can_put_one d p (subst (λ (ps : List PairPart). Contains ps p) is there) (All-contains AreComplete parts p complete there)
     (each_passes (λ (q : PairPart). can_be_put d.size d.count q.1) parts p can there)) parts (All-contains_itself parts)
 
 -- ---- the image
@@ -236,7 +236,7 @@ module _ (d : Disk) (parts : List PairPart) (h : AreJoined d parts) where
       ∙ ap (λ (n : ℕ). list_all (λ (p : PairPart). can_be_put d.size n p.1) parts) same_count ∙ joined_can
 
   pub joined_put : can_be_joined d ≡ true → All (CanPut d) parts
-  joined_put can = can_put_all d parts is_to_be h.whole (joined_can ∙ can)
+  joined_put can = can_put_all d parts is_to_be h.complete (joined_can ∙ can)
 
   pub joined_once : (b : ℕ) → pairs_name b (pairs_in parts) ≤ 1
   joined_once b = subst (λ (qs : List PairPart). pairs_name b (pairs_in qs) ≤ 1) (sym is_to_be) (to_be_once d b)

@@ -40,10 +40,10 @@ kept-nil false = refl
 -- ---- the tags of a commit
 
 -- edits were added, and what is left of a commit behind their tags gives what the whole gives
-pub record IsReadTo (in_root : Bool) (old now : List Edit) (left whole : Option CommitFront) : Type 0 where
+pub record IsReadTo (in_root : Bool) (old now : List Edit) (left complete : Option CommitFront) : Type 0 where
   pub more : List Edit
   pub is : now ≡ old ++ more
-  pub seen : option_map (commit_kept in_root (items more)) left ≡ option_map (commit_kept in_root []) whole
+  pub seen : option_map (commit_kept in_root (items more)) left ≡ option_map (commit_kept in_root []) complete
 
 seen_with : (in_root : Bool) (before : List Item) (t : Item) (o : Option CommitFront)
     → option_map (commit_kept in_root (before ++ kept in_root (t ∷ []))) o ≡ option_map (commit_kept in_root before) (option_map (with_tag t) o)
@@ -54,11 +54,11 @@ seen_with in_root before t (Some r) =
     ∙ ap (λ (ts : List Item). before ++ ts) (sym (kept-append in_root (t ∷ []) r.commit.tags)) in
     rw same refl
 
-pub read_more : (in_root : Bool) (old now new : List Edit) (whole : Option CommitFront) (sum covered next_sum prev word : ℕ) (rest : List ℕ)
-    (f : TagFront) → IsReadTo in_root old now (later_at sum prev rest) whole → tag_at prev rest ≡ Some f → closes f.item.word ≡ false
+pub read_more : (in_root : Bool) (old now new : List Edit) (complete : Option CommitFront) (sum covered next_sum prev word : ℕ) (rest : List ℕ)
+    (f : TagFront) → IsReadTo in_root old now (later_at sum prev rest) complete → tag_at prev rest ≡ Some f → closes f.item.word ≡ false
     → IsPushed now (kept in_root (f.item ∷ [])) new → covered ≡ crc sum f.stored → next_sum ≡ crc covered f.item.content
-    → word ≡ f.item.word → IsReadTo in_root old new (later_at next_sum word f.rest) whole
-read_more in_root old now new whole sum covered next_sum prev word rest f to e unclosed pushed covers sums word_is =
+    → word ≡ f.item.word → IsReadTo in_root old new (later_at next_sum word f.rest) complete
+read_more in_root old now new complete sum covered next_sum prev word rest f to e unclosed pushed covers sums word_is =
     let behind = crc (crc sum f.stored) f.item.content in
     let sum_is : next_sum ≡ behind = sums ∙ ap (λ (s : ℕ). crc s f.item.content) covers in
     let tags : items (to.more ++ pushed.more) ≡ items to.more ++ kept in_root (f.item ∷ []) =
@@ -98,11 +98,11 @@ found_with : (before : List Item) (o : Option Committed)
 found_with before None = refl
 found_with before (Some c) = refl
 
-pub read_closes : (in_root : Bool) (old now : List Edit) (whole : Option CommitFront) (sum covered prev : ℕ) (rest : List ℕ) (f : TagFront)
-    (found : Option Committed) → IsReadTo in_root old now (later_at sum prev rest) whole → tag_at prev rest ≡ Some f
+pub read_closes : (in_root : Bool) (old now : List Edit) (complete : Option CommitFront) (sum covered prev : ℕ) (rest : List ℕ) (f : TagFront)
+    (found : Option Committed) → IsReadTo in_root old now (later_at sum prev rest) complete → tag_at prev rest ≡ Some f
     → closes f.item.word ≡ true → covered ≡ crc sum f.stored → option_map commit_found found ≡ option_map commit_seen (closed covered f)
-    → IsCommitPushed in_root old whole found now
-read_closes in_root old now whole sum covered prev rest f found to e closing covers is = record {
+    → IsCommitPushed in_root old complete found now
+read_closes in_root old now complete sum covered prev rest f found to e closing covers is = record {
   more = to.more;
   is = to.is;
   seen =
@@ -114,9 +114,9 @@ read_closes in_root old now whole sum covered prev rest f found to e closing cov
       ∙ to.seen;
 }
 
-pub read_ends : (in_root : Bool) (old now : List Edit) (whole : Option CommitFront) (sum prev : ℕ) (rest : List ℕ)
-    → IsReadTo in_root old now (later_at sum prev rest) whole → tag_at prev rest ≡ None → IsCommitPushed in_root old whole None now
-read_ends in_root old now whole sum prev rest to e = record {
+pub read_ends : (in_root : Bool) (old now : List Edit) (complete : Option CommitFront) (sum prev : ℕ) (rest : List ℕ)
+    → IsReadTo in_root old now (later_at sum prev rest) complete → tag_at prev rest ≡ None → IsCommitPushed in_root old complete None now
+read_ends in_root old now complete sum prev rest to e = record {
   more = to.more;
   is = to.is;
   seen = ap (option_map (commit_kept in_root (items to.more))) (sym (commit_by-none closes sum prev rest e)) ∙ to.seen;

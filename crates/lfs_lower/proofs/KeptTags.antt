@@ -128,18 +128,18 @@ AreKeptIf size (Some ts) = AreKept size ts
 
 kept_by : (in_root : Bool) (size : ℕ) (bytes : List ℕ) (cs : List Commit) → IsBlockSize size → length bytes + 4 ≡ size
     → CommitsRead bytes cs → AreKeptIf size (option_map (tags_lowered in_root) (tags_said cs))
-kept_by in_root size bytes [] whole len h = tt
-kept_by in_root size bytes (c ∷ cs) whole len h =
+kept_by in_root size bytes [] complete len h = tt
+kept_by in_root size bytes (c ∷ cs) complete len h =
     let like = tags_like in_root (filter is_said (log_tags (c ∷ cs))) (said (log_tags (c ∷ cs)) h.tags) in
     let few = fewer (log_tags (c ∷ cs)) in
-    record { said = like.said; fits = omega (arith, like.len, few, h.room, len, whole.2) }
+    record { said = like.said; fits = omega (arith, like.len, few, h.room, len, complete.2) }
 
 pub kept_of_block : (in_root : Bool) (block : List ℕ) → IsBytes block → IsBlockSize (length block)
     → AreKeptIf (length block) (lowered_tags in_root block)
-kept_of_block in_root block bytes whole =
-    kept_by in_root (length block) (drop 4 block) (later_commits block) whole (omega (arith, length-drop 4 block, whole.0))
+kept_of_block in_root block bytes complete =
+    kept_by in_root (length block) (drop 4 block) (later_commits block) complete (omega (arith, length-drop 4 block, complete.0))
     (commits_read _ _ (drop 4 block) (IsBytes-drop 4 block bytes))
 
 pub kept_fit : (in_root : Bool) (block : List ℕ) (ts : List Item) → IsBytes block → IsBlockSize (length block)
     → lowered_tags in_root block ≡ Some ts → AreKept (length block) ts
-kept_fit in_root block ts bytes whole e = subst (AreKeptIf (length block)) e (kept_of_block in_root block bytes whole)
+kept_fit in_root block ts bytes complete e = subst (AreKeptIf (length block)) e (kept_of_block in_root block bytes complete)

@@ -5,7 +5,7 @@ pub mod HeldAnew
 pub mod JoinedHeld
 pub mod JoinedImage
 pub mod JoinedParts
-pub mod JoinedWhole
+pub mod JoinedComplete
 pub mod KeptLemmas
 pub mod KeptTags
 pub mod LaterSteps

@@ -17,7 +17,7 @@ use Rattle.lfs_tag.specs.Commit.{Item}
 use Rattle.lfs_meta.specs.Body.{Pair}
 use Rattle.lfs_meta.specs.LiveBlock.{live_tags, stored_part_of, tags_of}
 use Rattle.lfs_meta.specs.Replay.{replay}
-use Rattle.lfs_meta.specs.Whole.{whole_part}
+use Rattle.lfs_meta.specs.Complete.{complete_part}
 use Rattle.lfs_meta.proofs.HeldPartLemmas.{block_bytes}
 use Rattle.lfs_fs.specs.Front.{IsFront, next_after, next_pair, pair_names, pairs_name, tail_of}
 use Rattle.lfs_fs.specs.Pair.{root}
@@ -68,7 +68,7 @@ lowered_part lives d f pair disk first_within second_within first second =
     ∙ ap (live_tags (lowered_block (is_root_block pair.0) (block_of d pair.0))) second
     ∙ lives (is_root_block pair.0) (is_root_block pair.1) (block_of d pair.0) (block_of d pair.1) (block_bytes d pair.0 disk)
     (block_bytes d pair.1 disk) (block_fits d pair.0 disk first_within) (block_fits d pair.1 disk second_within) in
-    ap (λ (o : Option (List Item)). option_and_then whole_part (option_and_then replay o)) tags
+    ap (λ (o : Option (List Item)). option_and_then complete_part (option_and_then replay o)) tags
 
 -- ---- the thread
 

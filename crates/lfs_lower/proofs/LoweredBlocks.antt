@@ -15,8 +15,8 @@ use Rattle.lfs_lower.proofs.KeptTags.{kept_of_block}
 use Rattle.lfs_lower.proofs.SpelledBlocks.{LogLaws, read_back, revision_back}
 
 pub blocks_read : LogLaws → LoweredBlocksAreRead
-blocks_read laws in_root block bytes whole =
-    let back = read_back laws (length block) (revision block) (lowered_tags in_root block) whole (kept_of_block in_root block bytes whole) in
+blocks_read laws in_root block bytes complete =
+    let back = read_back laws (length block) (revision block) (lowered_tags in_root block) complete (kept_of_block in_root block bytes complete) in
     record { len = back.len; held = back.held; bytes = back.bytes }
 
 -- ---- the live block
@@ -56,19 +56,19 @@ revision-small block h =
 -- a lowered block that has a commit has the block's revision
 revision-kept : (in_root : Bool) (block : List ℕ) (ts : List Item) → IsBytes block → IsBlockSize (length block)
     → lowered_tags in_root block ≡ Some ts → revision (lowered_block in_root block) ≡ revision block
-revision-kept in_root block ts bytes whole e =
+revision-kept in_root block ts bytes complete e =
     ap (λ (o : Option (List Item)). revision (spelled (length block) (revision block) o)) e
-    ∙ revision_back (length block) (revision block) ts (revision-small block bytes) (omega (arith, whole.0))
+    ∙ revision_back (length block) (revision block) ts (revision-small block bytes) (omega (arith, complete.0))
 
 pub lives_read : LogLaws → LivesAreRead
-lives_read laws first_root second_root first second first_bytes second_bytes first_whole second_whole =
-    let one = blocks_read laws first_root first first_bytes first_whole in
-    let two = blocks_read laws second_root second second_bytes second_whole in
+lives_read laws first_root second_root first second first_bytes second_bytes first_complete second_complete =
+    let one = blocks_read laws first_root first first_bytes first_complete in
+    let two = blocks_read laws second_root second second_bytes second_complete in
     let late : Bool = is_later (revision (lowered_block second_root second)) (revision (lowered_block first_root first)) in
     live-is late (committed_log (lowered_block first_root first)) (committed_log (lowered_block second_root second))
     ∙ ap (λ (o : Option (List Item)). live_by late o (committed (lowered_block second_root second))) one.held
     ∙ ap (live_by late (lowered_tags first_root first)) two.held
     ∙ either-late late (is_later (revision second) (revision first)) (lowered_tags first_root first) (lowered_tags second_root second)
     (λ ts us e k. ap (λ (n : ℕ). is_later n (revision (lowered_block first_root first)))
-    (revision-kept second_root second us second_bytes second_whole k)
-    ∙ ap (is_later (revision second)) (revision-kept first_root first ts first_bytes first_whole e))
+    (revision-kept second_root second us second_bytes second_complete k)
+    ∙ ap (is_later (revision second)) (revision-kept first_root first ts first_bytes first_complete e))

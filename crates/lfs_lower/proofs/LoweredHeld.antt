@@ -8,7 +8,7 @@ use Rattle.lfs_tag.specs.Commit.{Item}
 use Rattle.lfs_meta.specs.Body.{Pair}
 use Rattle.lfs_meta.specs.LiveBlock.{live_tags, stored_part_of, tags_of}
 use Rattle.lfs_meta.specs.Replay.{replay}
-use Rattle.lfs_meta.specs.Whole.{whole_part}
+use Rattle.lfs_meta.specs.Complete.{complete_part}
 use Rattle.lfs_meta.proofs.HeldPartLemmas.{block_bytes}
 use Rattle.lfs_lower.specs.Anew.{IsSpelledAnew, ReadsBlocks}
 use Rattle.lfs_lower.specs.LaterReading.{later_part_of, later_reading_of, later_tags_of}
@@ -38,7 +38,7 @@ part_lowered_at : LivesAreRead → (d e : Disk) → IsDisk d → (is : IsLowered
     → stored_part_of e p ≡ later_part_of d p
 part_lowered_at lives d e disk is p there =
     let named = pairs_name_both is.front p there in
-    ap (λ (tags : Option (List Item)). option_and_then whole_part (option_and_then replay tags))
+    ap (λ (tags : Option (List Item)). option_and_then complete_part (option_and_then replay tags))
     (tags_lowered_at lives d e p disk (is.is_front.within p.0 named.0) (is.is_front.within p.1 named.1) (is.lowered p.0 named.0)
     (is.lowered p.1 named.1))
 

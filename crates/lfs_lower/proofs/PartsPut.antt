@@ -13,7 +13,7 @@ use Rattle.lfs_meta.specs.Laws.{PartsDependOnTheirBlocks}
 use Rattle.lfs_meta.specs.LiveBlock.{live_block, stored_part_of}
 use Rattle.lfs_meta.specs.declared.live_block.LiveBlock.{LiveBlock}
 use Rattle.lfs_meta.specs.declared.live_block.LiveBlock.TheVariants.{First, Second, Neither}
-use Rattle.lfs_commit.specs.Writing.{IsRewritten, other_than}
+use Rattle.lfs_pair.specs.Writing.{IsRewritten, other_than}
 use Rattle.lfs_fs.specs.Front.{pair_names, pairs_name}
 use Rattle.lfs_fs.specs.Gathering.{PairPart}
 use Rattle.lfs_fs.proofs.ContainsLemmas.{contains_cases, contains_none}

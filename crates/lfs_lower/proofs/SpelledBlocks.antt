@@ -19,8 +19,8 @@ use Rattle.lfs_tag.specs.Reading.{Front}
 use Rattle.lfs_tag.specs.Writing.{tags_len, committed_end, commit_of, lead_at}
 use Rattle.lfs_tag.proofs.Puts.{put_at-len, before-put_at, commit_of-valid}
 use Rattle.lfs_meta.specs.LiveBlock.{committed, revision}
-use Rattle.lfs_commit.specs.Writing.{revised, log_written}
-use Rattle.lfs_commit.proofs.LogLemmas.{seen_by, written-committed}
+use Rattle.lfs_pair.specs.Writing.{revised, log_written}
+use Rattle.lfs_pair.proofs.LogLemmas.{seen_by, written-committed}
 use Rattle.lfs_lower.specs.Spelled.{spelled}
 use Rattle.lfs_lower.proofs.KeptTags.{IsSaid, AreKeptIf, IsBytes-low, IsBytes-high}
 
@@ -96,15 +96,15 @@ revised_len size number long =
     )
 
 pub read_back : LogLaws → (size number : ℕ) (tags : Option (List Item)) → IsBlockSize size → AreKeptIf size tags → IsReadBack size number tags
-read_back laws size number None whole kept = record {
+read_back laws size number None complete kept = record {
   len = length-replicate {A = ℕ} size 255;
-  held = erased-uncommitted laws.erased laws.read size (omega (arith, whole.0));
+  held = erased-uncommitted laws.erased laws.read size (omega (arith, complete.0));
   bytes = IsBytes-erased size;
 }
-read_back laws size number (Some ts) whole kept =
+read_back laws size number (Some ts) complete kept =
     let block : List ℕ = revised number (erased_block size) in
     let new : List ℕ = commit_bytes (lead_at 4 block) 0xffffffff (commit_of 4 ts) in
-    let long : length block ≡ size = revised_len size number (omega (arith, whole.0)) in
+    let long : length block ≡ size = revised_len size number (omega (arith, complete.0)) in
     let new_len : 4 + length new ≡ committed_end 4 ts = laws.written (lead_at 4 block) 4 0xffffffff ts in
     let bytes : IsBytes (log_written number ts (erased_block size)) =
     IsBytes-put 4 new block (IsBytes-commit (lead_at 4 block) 4 0xffffffff ts kept.said)

@@ -5,7 +5,7 @@ use Rattle.lfs_block.specs.Disk.{Disk, IsDisk, block_of}
 use Rattle.lfs_meta.specs.Body.{Pair}
 use Rattle.lfs_meta.specs.LiveBlock.{stored_part_of}
 use Rattle.lfs_meta.specs.Entry.{StoredEntry}
-use Rattle.lfs_meta.specs.Whole.{IsWhole}
+use Rattle.lfs_meta.specs.Complete.{IsComplete}
 use Rattle.lfs_fs.specs.Front.{pairs_name}
 use Rattle.lfs_fs.specs.Gathering.{PairPart}
 use Rattle.lfs_fs.specs.Reading.{Reading, reading_of}
@@ -29,7 +29,7 @@ pub record IsGathered (r : Reading) (used : List Bool) (parts : List PairPart) (
   pub marks : Marks used (λ b. pairs_name b before)
   pub enough : unmarked used ≤ n
   pub left : parts ++ parts_held r (pairs_along (lead r) r.count before n from) ≡ parts_held r (superblock_pairs r)
-  pub whole : All (λ p. AllByRecursion IsWhole p.1.entries) parts
+  pub complete : All (λ p. AllByRecursion IsComplete p.1.entries) parts
 
 -- ---- parts with one superblock
 
@@ -74,7 +74,7 @@ pub record CanPut (d : Disk) (p : PairPart) : Type 0 where
   pub apart : p.0.0 ≢ p.0.1
   pub first : p.0.0 < d.count
   pub second : p.0.1 < d.count
-  pub whole : AllByRecursion IsWhole p.1.entries
+  pub complete : AllByRecursion IsComplete p.1.entries
   pub can : can_be_put d.size d.count p.1 ≡ true
 
 -- an entry, if there is one, put before those of the first part
@@ -89,4 +89,4 @@ with_one ps = led_parts (last_in None ps) (map stripped ps)
 -- the parts that the pairs of superblocks are to hold
 pub record AreJoined (d : Disk) (parts : List PairPart) : Type 0 where
   pub is : parts ≡ with_one (parts_held (reading_of d) (superblock_pairs (reading_of d)))
-  pub whole : All (λ p. AllByRecursion IsWhole p.1.entries) parts
+  pub complete : All (λ p. AllByRecursion IsComplete p.1.entries) parts

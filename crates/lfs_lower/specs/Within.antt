@@ -13,8 +13,8 @@ use Rattle.lfs_lower.specs.OneSuperblock.{superblock_at, superblock_in}
 use Rattle.lfs_lower.specs.ReadAs.{IsReadAs}
 
 -- as many bytes as fill whole blocks of a size, of which an image has 65,536 at most; all of them where a block has none
-abbrev pub whole_blocks : ℕ → List ℕ → List ℕ
-whole_blocks size bytes = if size == 0 then bytes else take (min (length bytes / size) 65536 * size) bytes
+abbrev pub complete_blocks : ℕ → List ℕ → List ℕ
+complete_blocks size bytes = if size == 0 then bytes else take (min (length bytes / size) 65536 * size) bytes
 
 -- the number of blocks that the struct of a superblock states
 abbrev pub count_of_struct : StoredBody → Option ℕ
@@ -42,4 +42,4 @@ IsOwnPart size bytes own =
 -- the image with which bytes begin: of as many whole blocks as are there, read in a manner, as many as its superblock states
 abbrev pub IsWithin : Bool → ℕ → List ℕ → List ℕ → Type 0
 IsWithin by_device size bytes image =
-    (whole : List ℕ) × IsReadAs by_device size (whole_blocks size bytes) whole × IsOwnPart size whole image
+    (complete : List ℕ) × IsReadAs by_device size (complete_blocks size bytes) complete × IsOwnPart size complete image

@@ -5,8 +5,8 @@ ghost use Rattle.lfs_block.specs.Geometry.{IsBlockSize};
 ghost use Rattle.lfs_lower.specs.Spelled.{lowered_block};
 
 use crate::kept::kept_edits;
-use lfs_commit::block_with;
 use lfs_meta::revision;
+use lfs_pair::block_with;
 use std::alloc::{AllocError, Global};
 
 /// A block with what version 2.1 reads of it as one commit that version 2.0 reads, or an erased block where there is no commit. In a

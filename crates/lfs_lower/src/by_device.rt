@@ -20,8 +20,6 @@ fn relaid(alloc: Global, image: Image) -> Result<Vec<u8>, AllocError>
 
 /// Bytes as a device reads them, which a reader of version 2.0 then reads so: those of the image of blocks of `size` bytes that they are,
 /// with its thread as version 2.1 reads it, and with one superblock where it was expanded. Bytes that are no image stay. Takes memory.
-///
-/// Source: own.
 pub fn read_by_device(alloc: Global, size: u32, bytes: Vec<u8>) -> Result<Vec<u8>, AllocError>
     ensures { IfOk result (λ read. IsReadByDevice size bytes.items read.items) }
 {

@@ -15,8 +15,8 @@ ghost use Rattle.lfs_lower.specs.OneSuperblock.{can_be_put, is_header, lowered_e
 use crate::header::lower_header;
 use crate::superblocks::{is_superblock, superblock_parts};
 use lfs_block::{Blocks, Image, put_blocks_stand};
-use lfs_commit::rewrite;
 use lfs_meta::{Body, Entry, Part, Tail, parts_depend_on_their_blocks, weight};
+use lfs_pair::rewrite;
 use std::alloc::{AllocError, Global};
 
 /// The most entries that one pair holds.
@@ -131,7 +131,7 @@ fn all_can(parts: &[Part], size: u32, count: u32) -> bool
 /// Writes bytes over a block of an image.
 fn overwrite(image: &mut Image, number: u32, bytes: &[u8])
     requires within { number < image.old.disk.count }
-    requires whole { length bytes.now ≡ image.old.disk.size }
+    requires complete { length bytes.now ≡ image.old.disk.size }
     ensures disk { image.new.disk ≡ put number bytes.now image.old.disk }
     ensures bytes { IsBytes bytes.now }
 {
@@ -185,8 +185,6 @@ fn joined_parts<B: Blocks>(alloc: Global, blocks: &B) -> Result<Vec<Part>, Alloc
 /// Joins the superblocks of an image of version 2.0, which a device may have expanded: the last one, lowered, stands in the place of the
 /// first, and there is no other. Where a pair has no room for that, nothing is changed. The error is want of memory; some pairs may be
 /// rewritten then. Takes memory.
-///
-/// Source: own.
 pub fn join(alloc: Global, image: &mut Image) -> Result<(), AllocError>
     ensures { OnOk result (IsJoinedImage image.old.disk image.new.disk) }
 {

@@ -9,9 +9,7 @@ use lfs_fs::{both_sides_hold, same_readings_hold_the_same, stored_links_stay};
 use lfs_tag::laws::{erased_block, first_commit, log_is_read, written_length};
 
 /// A law: a lowered block is as long as the block, and version 2.0 reads of it what version 2.1 reads of the block. Of two lowered
-/// blocks version 2.0 takes the one for the live one that version 2.1 takes of the two. Takes no memory.
-///
-/// Source: own.
+/// blocks version 2.0 takes the one for the live one that version 2.1 takes of the two.
 pub fn lowered_blocks_are_read()
     ensures blocks { LoweredBlocksAreRead }
     ensures lives { LivesAreRead }
@@ -22,9 +20,7 @@ pub fn lowered_blocks_are_read()
     erased_block();
 }
 
-/// A law: a lowered image holds the sound volumes that version 2.1 reads in the other one, and no other. Takes no memory.
-///
-/// Source: own.
+/// A law: a lowered image holds the sound volumes that version 2.1 reads in the other one, and no other.
 pub fn lowered_images_hold_what_is_read()
     ensures { LoweredImagesHoldWhatIsRead }
 {
@@ -35,19 +31,14 @@ pub fn lowered_images_hold_what_is_read()
     lowered_blocks_are_read();
 }
 
-/// A law: of an image all of whose blocks are lowered each pair holds what version 2.1 reads of it. Takes no memory.
-///
-/// Source: own.
+/// A law: of an image all of whose blocks are lowered each pair holds what version 2.1 reads of it.
 pub fn lowered_pairs_are_read()
     ensures { LoweredPairsAreRead }
 {
     lowered_blocks_are_read();
 }
 
-/// A law: what an image holds whose superblock stands once, it holds too where it is read as one with one superblock. Takes no
-/// memory.
-///
-/// Source: own.
+/// A law: what an image holds whose superblock stands once, it holds too where it is read as one with one superblock.
 pub fn one_superblock_stays()
     ensures { OneSuperblockStays }
 {
@@ -55,9 +46,7 @@ pub fn one_superblock_stays()
 }
 
 /// A law: an image that is lowered and then joined holds the sound volumes that a reader of version 2.1 reads in the other one,
-/// and no other. Takes no memory.
-///
-/// Source: own.
+/// and no other.
 pub fn relaid_images_hold_what_is_read()
     ensures { RelaidImagesHoldWhatIsRead }
 {

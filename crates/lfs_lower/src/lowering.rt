@@ -9,8 +9,8 @@ ghost use Rattle.lfs_lower.specs.Lowered.{IsLoweredImage};
 use crate::block::lowered_block;
 use crate::laws::lowered_blocks_are_read;
 use lfs_block::{Blocks, Image, put_blocks_stand};
-use lfs_commit::held_part;
 use lfs_fs::{ROOT, mark_all, next_pair};
+use lfs_pair::held_part;
 use std::alloc::{AllocError, Global};
 
 /// The blocks before this one are those of the root's first pair.
@@ -60,8 +60,6 @@ fn following(
 /// version 2.0 reads, and erased where that is none. The superblock states 2.0 in the place of 2.1. The thread is followed as far as
 /// its pairs are read, and no block is named twice; all other blocks stay. Where memory is refused some blocks may be lowered, and
 /// the image is of no use. Takes memory.
-///
-/// Source: own.
 pub fn lower(alloc: Global, image: &mut Image) -> Result<(), AllocError>
     ensures { OnOk result (IsLoweredImage image.old.disk image.new.disk) }
 {

@@ -28,7 +28,7 @@ pub(crate) struct Committed<'a> {
     pub(crate) rest: &'a [u8],
 }
 
-/// Whether a tag closes its commit for a later disk version. Takes no memory.
+/// Whether a tag closes its commit for a later disk version.
 ///
 /// Source: littlefs disk version 2.1.
 pub fn closes(tag: Tag) -> bool

@@ -4,13 +4,10 @@ ghost use Rattle.std.specs.Prelude.{◌≡◌, IfSome, IsNone, Some, ℕ, true, 
 ghost use Rattle.lfs_lower.specs.Size.{IsSecondStated, IsStated, StatesSecond, size_at, size_of_words};
 
 use crate::words::superblock_words;
-use lfs_block::{BLOCK_SIZE_STEP, geometry_ok, little_word};
+use lfs_block::{BLOCK_SIZE_STEP, MAX_BLOCK_SIZE, geometry_ok, little_word};
 
 /// The least size of a block, in bytes.
 const MIN_BLOCK_SIZE: u32 = 256;
-
-/// The greatest size of a block, in bytes.
-const MAX_BLOCK_SIZE: u32 = 65_536;
 
 /// The bytes of an image's front that are looked at: a block of the greatest size, and a superblock behind it up to the number of its
 /// blocks.
@@ -68,10 +65,7 @@ fn second_size(front: &[u8]) -> Option<u32>
 }
 
 /// The size of a block, in bytes, that the front of an image states: in its first block, or, where that states none, in its second one,
-/// whose place shows the size. `None` where neither states a size that blocks have. Whether the image mounts isn't looked at. Takes no
-/// memory.
-///
-/// Source: own.
+/// whose place shows the size. `None` where neither states a size that blocks have. Whether the image mounts isn't looked at.
 pub fn size_stated(front: &[u8]) -> Option<u32>
     ensures { IsStated front.now result }
 {

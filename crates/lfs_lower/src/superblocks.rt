@@ -3,7 +3,7 @@
 ghost use Rattle.std.specs.Prelude.{◌≡◌, ◌<◌, [], All, IfOk, MatchBool, IfSome, IfNone, Some, None};
 ghost use Rattle.std.specs.List.{AllByRecursion};
 ghost use Rattle.lfs_meta.specs.LiveBlock.{stored_part_of};
-ghost use Rattle.lfs_meta.specs.Whole.{IsWhole};
+ghost use Rattle.lfs_meta.specs.Complete.{IsComplete};
 ghost use Rattle.lfs_fs.specs.Reading.{reading_of};
 ghost use Rattle.lfs_lower.specs.OneSuperblock.{behind_superblock, is_superblock, lead_by, superblock_pairs};
 ghost use Rattle.lfs_lower.specs.Joining.{parts_held};
@@ -61,7 +61,7 @@ pub(crate) fn part_at<B: Blocks>(
     ensures none { IfOk result (λ part. IfNone part (stored_part_of (B.disk blocks.now) pair ≡ None)) }
     ensures pair { IfOk result (λ part. IfSome part (λ p. p.0 ≡ pair)) }
     ensures found { IfOk result (λ part. IfSome part (λ p. stored_part_of (B.disk blocks.now) pair ≡ Some p.1)) }
-    ensures whole { IfOk result (λ part. IfSome part (λ p. AllByRecursion IsWhole p.1.entries)) }
+    ensures complete { IfOk result (λ part. IfSome part (λ p. AllByRecursion IsComplete p.1.entries)) }
 {
     unread_pairs_hold_no_part();
     match read_pair(alloc, blocks, pair) {
@@ -80,7 +80,7 @@ pub(crate) fn superblock_parts<B: Blocks>(
     blocks: &B,
 ) -> Result<Vec<Part>, AllocError>
     ensures parts { IfOk result (λ parts. parts.items ≡ parts_held (reading_of (B.disk blocks.now)) (superblock_pairs (reading_of (B.disk blocks.now)))) }
-    ensures whole { IfOk result (λ parts. All (λ p. AllByRecursion IsWhole p.1.entries) parts.items) }
+    ensures complete { IfOk result (λ parts. All (λ p. AllByRecursion IsComplete p.1.entries) parts.items) }
 {
     let mut used = vec![in alloc; false; blocks.count() as usize]?;
     let table = used.as_mut_slice();

@@ -4,9 +4,7 @@ ghost use Rattle.std.specs.Prelude.{◌≡◌};
 ghost use Rattle.lfs_lower.specs.Version.{later_version, other_version, unread_version};
 
 use crate::seen_pair::root_seen;
-
-/// The disk version that is edited.
-const VERSION: u32 = 0x0002_0000;
+use lfs_fs::VERSION;
 
 /// The disk version that commits in one of an image's first two blocks state.
 #[derive(Clone, Copy, PartialEq, Eq)]

@@ -3,21 +3,19 @@
 ghost use Rattle.std.specs.Prelude.{◌≡◌, IfErr, IfOk, true};
 ghost use Rattle.lfs_fs.specs.Reading.{reading_of};
 ghost use Rattle.lfs_lower.specs.ReadAs.{IsReadAs};
-ghost use Rattle.lfs_lower.specs.Within.{IsOwnPart, IsWithin, count_in, count_stated, own_part, whole_blocks};
+ghost use Rattle.lfs_lower.specs.Within.{IsOwnPart, IsWithin, count_in, count_stated, own_part, complete_blocks};
 
 use crate::by_device::read_by_device;
 use crate::superblocks::{is_superblock, part_at};
-use lfs_block::{Blocks, Image, little_word};
+use lfs_block::{Blocks, Image, MAX_BLOCK_COUNT, little_word};
 use lfs_fs::ROOT;
 use lfs_meta::{Body, Entry};
 use std::alloc::{AllocError, Global};
 
 /// The most blocks that an image has.
-const MOST_BLOCKS: usize = 65_536;
+const MOST_BLOCKS: usize = MAX_BLOCK_COUNT as usize;
 
 /// Bytes as a device reads them, where that is asked for, and else as they are. Takes memory where it is asked for.
-///
-/// Source: own.
 pub fn read_as(
     alloc: Global,
     by_device: bool,
@@ -34,8 +32,8 @@ pub fn read_as(
 }
 
 /// As many bytes as fill whole blocks of `size` bytes, of which an image has 65,536 at most.
-fn whole_blocks(size: u32, bytes: Vec<u8>) -> Vec<u8>
-    ensures { result.items ≡ whole_blocks size bytes.items }
+fn complete_blocks(size: u32, bytes: Vec<u8>) -> Vec<u8>
+    ensures { result.items ≡ complete_blocks size bytes.items }
 {
     if size == 0 {
         return bytes;
@@ -99,8 +97,6 @@ fn own_bytes(alloc: Global, size: u32, bytes: Vec<u8>) -> Result<Vec<u8>, AllocE
 /// The image of blocks of `size` bytes with which bytes begin: the whole blocks that are there, at most 65,536, read as a device
 /// does where that is asked for, and of them as many as the superblock states. Where none is read, or it states more, all of them.
 /// Takes memory.
-///
-/// Source: own.
 pub fn read_within(
     alloc: Global,
     by_device: bool,
@@ -109,6 +105,6 @@ pub fn read_within(
 ) -> Result<Vec<u8>, AllocError>
     ensures { IfOk result (λ image. IsWithin by_device size bytes.items image.items) }
 {
-    let whole = read_as(alloc, by_device, size, whole_blocks(size, bytes))?;
-    own_bytes(alloc, size, whole)
+    let complete = read_as(alloc, by_device, size, complete_blocks(size, bytes))?;
+    own_bytes(alloc, size, complete)
 }

@@ -34,7 +34,7 @@ fn begins_at(front: &[u8], at: usize, bytes: &[u8]) -> bool
 
 /// The bytes of the struct of the superblock at the front of a block, its version first, and all behind them; `None` where the block
 /// doesn't begin as one with a superblock does. A tag that creates the entry may stand before its name. Whether a commit holds them
-/// isn't looked at. Takes no memory.
+/// isn't looked at.
 ///
 /// Source: SPEC.md, "0x0ff superblock".
 pub fn superblock_words(front: &[u8]) -> Option<&[u8]>

@@ -19,7 +19,7 @@ with_more n [] = []
 with_more n (m ∷ ms) = (n + m) ∷ ms
 
 pub record IsCutTo (room : ℕ) (all left : List StoredEntry) (lengths : List ℕ) (taken len : ℕ) : Type 0 where
-  pub whole : run_lengths room 0 0 all ≡ lengths ++ with_more len (run_lengths room taken len left)
+  pub complete : run_lengths room 0 0 all ≡ lengths ++ with_more len (run_lengths room taken len left)
   pub light : taken ≤ 330244
   pub few : len ≤ 1000
 
@@ -38,7 +38,7 @@ none_more [] = refl
 none_more (m ∷ ms) = ap (λ k. k ∷ ms) (omega arith)
 
 pub first : (room : ℕ) (all : List StoredEntry) → IsCutTo room all all [] 0 0
-first room all = record { whole = sym (none_more (run_lengths room 0 0 all)); light = omega arith; few = omega arith }
+first room all = record { complete = sym (none_more (run_lengths room 0 0 all)); light = omega arith; few = omega arith }
 
 step_by : (room taken len : ℕ) (e : StoredEntry) (es : List StoredEntry) (t : Bool) → run_takes room taken len (weight e) ≡ t
     → run_lengths room taken len (e ∷ es) ≡ (if t then with_more 1 (run_lengths room (taken + weight e) (len + 1) es) else 0
@@ -56,7 +56,7 @@ taken_more room all e left lengths taken len small full h =
     let fits : taken + weight e ≤ room = grind (arith, nat_tests) in
     let few : len < 1000 = grind (arith, nat_tests) in
     record {
-      whole = h.whole ∙ ap (λ (ns : List ℕ). lengths ++ with_more len ns) (step_by room taken len e left true full)
+      complete = h.complete ∙ ap (λ (ns : List ℕ). lengths ++ with_more len ns) (step_by room taken len e left true full)
           ∙ ap (λ (ns : List ℕ). lengths ++ ns) (more_twice len (run_lengths room (taken + weight e) (len + 1) left));
       light = omega (arith, fits, small);
       few = omega (arith, few);
@@ -66,8 +66,8 @@ pub left_more : (room : ℕ) (all : List StoredEntry) (e : StoredEntry) (left : 
     → weight e ≤ 264708 → (run_takes room taken len (weight e) ≡ false)
     → IsCutTo room all (e ∷ left) lengths taken len → IsCutTo room all left (lengths ++ len ∷ []) (weight e) 1
 left_more room all e left lengths taken len small full h = record {
-  whole =
-      h.whole ∙ ap (λ (ns : List ℕ). lengths ++ with_more len ns) (step_by room taken len e left false full)
+  complete =
+      h.complete ∙ ap (λ (ns : List ℕ). lengths ++ with_more len ns) (step_by room taken len e left false full)
       ∙ ap (λ (n : ℕ). lengths ++ n ∷ with_more 1 (run_lengths room (weight e) 1 left)) (omega arith)
       ∙ sym (append_assoc lengths (len ∷ []) (with_more 1 (run_lengths room (weight e) 1 left)));
   light = omega (arith, small);
@@ -77,7 +77,7 @@ left_more room all e left lengths taken len small full h = record {
 pub all_cut : (room : ℕ) (all : List StoredEntry) (lengths : List ℕ) (taken len : ℕ) → IsCutTo room all [] lengths taken len
     → lengths ++ len ∷ [] ≡ run_lengths room 0 0 all
 unfolding runs_after
-all_cut room all lengths taken len h = sym (h.whole ∙ ap (λ (n : ℕ). lengths ++ n ∷ []) (omega arith))
+all_cut room all lengths taken len h = sym (h.complete ∙ ap (λ (n : ℕ). lengths ++ n ∷ []) (omega arith))
 
 -- the next entry of those that are left
 next_entry : (all : List StoredEntry) (i : ℕ) (e : StoredEntry) → i < length all → e ≡ get_or all i e → drop i all ≡ e ∷ drop (i + 1) all
@@ -98,9 +98,9 @@ left_next room all i e w lengths taken len within is weighs small full h =
     (ap (run_takes room taken len) (sym weighs) ∙ full)
     (subst (λ (left : List StoredEntry). IsCutTo room all left lengths taken len) (next_entry all i e within is) h))
 
-pub cut_whole : (room : ℕ) (all : List StoredEntry) (i : ℕ) (lengths : List ℕ) (taken len : ℕ) → length all ≤ i
+pub cut_complete : (room : ℕ) (all : List StoredEntry) (i : ℕ) (lengths : List ℕ) (taken len : ℕ) → length all ≤ i
     → IsCutTo room all (drop i all) lengths taken len → lengths ++ len ∷ [] ≡ run_lengths room 0 0 all
-cut_whole room all i lengths taken len past h = all_cut room all lengths taken len
+cut_complete room all i lengths taken len past h = all_cut room all lengths taken len
     (subst (λ (left : List StoredEntry). IsCutTo room all left lengths taken len) (drop_all i all past) h)
 
 -- a length that was pushed

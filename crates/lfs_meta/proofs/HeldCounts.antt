@@ -15,11 +15,11 @@ use Rattle.lfs_meta.specs.Entry.{RawEntry, StoredEntry}
 use Rattle.lfs_meta.specs.LiveBlock.{live_block, live_log, tags_of}
 use Rattle.lfs_meta.specs.Part.{RawPart, StoredPart}
 use Rattle.lfs_meta.specs.Replay.{replay}
-use Rattle.lfs_meta.specs.Whole.{whole, all_whole, whole_part}
+use Rattle.lfs_meta.specs.Complete.{complete, all_complete, complete_part}
 use Rattle.lfs_meta.specs.HeldLaws.{HeldPartsHaveFewEntries}
 use Rattle.lfs_meta.proofs.HeldPartLemmas.{block_bytes, same_tags}
 use Rattle.lfs_meta.proofs.LiveLemmas.{live-read}
-use Rattle.lfs_meta.proofs.WholeLemmas.{and_then-split}
+use Rattle.lfs_meta.proofs.CompleteLemmas.{and_then-split}
 use Rattle.lfs_meta.proofs.ReplayCounts.{replay-few}
 
 -- ---- blocks
@@ -46,26 +46,26 @@ live_few few d pair Neither tags disk read is = cc
 
 -- ---- entries
 
-all_whole-length : (es : List RawEntry) (ws : List StoredEntry) → all_whole es ≡ Some ws → length ws ≡ length es
-all_whole-length [] ws all = let none : [] ≡ ws = cc in sym (ap length none)
-all_whole-length (e ∷ es) ws all =
-    let (w, first, rest) = and_then-split (λ (v : StoredEntry). option_map (λ (vs : List StoredEntry). v ∷ vs) (all_whole es))
-    (whole e) ws all in
-    let (vs, more, is) = map_some (λ (vs : List StoredEntry). w ∷ vs) (all_whole es) ws rest in
-    omega (arith, all_whole-length es vs more, ap length is)
+all_complete-length : (es : List RawEntry) (ws : List StoredEntry) → all_complete es ≡ Some ws → length ws ≡ length es
+all_complete-length [] ws all = let none : [] ≡ ws = cc in sym (ap length none)
+all_complete-length (e ∷ es) ws all =
+    let (w, first, rest) = and_then-split (λ (v : StoredEntry). option_map (λ (vs : List StoredEntry). v ∷ vs) (all_complete es))
+    (complete e) ws all in
+    let (vs, more, is) = map_some (λ (vs : List StoredEntry). w ∷ vs) (all_complete es) ws rest in
+    omega (arith, all_complete-length es vs more, ap length is)
 
 -- ---- parts
 
-part-length : (p : RawPart) (s : StoredPart) → whole_part p ≡ Some s → length s.entries ≡ length p.entries
+part-length : (p : RawPart) (s : StoredPart) → complete_part p ≡ Some s → length s.entries ≡ length p.entries
 part-length p s is =
     let (ws, all, same) = map_some (λ (es : List StoredEntry). let q : StoredPart =
-    record { entries = es; tail = p.tail; delta = p.delta } in q) (all_whole p.entries) s is in
-    sym (ap (λ (q : StoredPart). length q.entries) same) ∙ all_whole-length p.entries ws all
+    record { entries = es; tail = p.tail; delta = p.delta } in q) (all_complete p.entries) s is in
+    sym (ap (λ (q : StoredPart). length q.entries) same) ∙ all_complete-length p.entries ws all
 
 pub held_parts_few : LogTagsAreFew → HeldPartsHaveFewEntries
 held_parts_few few d pair s disk is =
-    let (p, there, whole_is) = and_then-split whole_part (option_and_then replay (tags_of d pair)) s is in
+    let (p, there, complete_is) = and_then-split complete_part (option_and_then replay (tags_of d pair)) s is in
     let (tags, tags_are, replayed) = and_then-split replay (tags_of d pair) p there in
     let count : 4 * length tags ≤ 65536 = live_few few d pair (live_block (block_of d pair.0) (block_of d pair.1)) tags disk
     (live-read (block_of d pair.0) (block_of d pair.1)) tags_are in
-    omega (arith, count, replay-few tags p replayed, part-length p s whole_is)
+    omega (arith, count, replay-few tags p replayed, part-length p s complete_is)

@@ -1,4 +1,4 @@
--- The entries of a part that a pair holds are whole, and their attributes rise.
+-- The entries of a part that a pair holds are complete, and their attributes rise.
 use Rattle.std.proofs.Common.{◌≡◌, ℕ, ◌+◌, ◌*◌, ◌<◌, ◌≤◌, true, List, [], ◌∷◌, length, drop, refl, ap, sym, ◌∙◌}
 use Rattle.std.proofs.Common.{subst, arith, Option, Some, None}
 use Rattle.std.specs.Prelude.{All, option_and_then, option_map}
@@ -26,11 +26,11 @@ use Rattle.lfs_meta.specs.LiveBlock.{live_block, live_log, tags_of}
 use Rattle.lfs_meta.specs.Name.{Name}
 use Rattle.lfs_meta.specs.Part.{RawPart, StoredPart}
 use Rattle.lfs_meta.specs.Replay.{replay}
-use Rattle.lfs_meta.specs.Whole.{kind_takes_body, kind_takes_name, whole_by, whole, all_whole, whole_part}
-use Rattle.lfs_meta.specs.HeldLaws.{IsHeldEntry, HeldPartsAreWhole}
+use Rattle.lfs_meta.specs.Complete.{kind_takes_body, kind_takes_name, complete_by, complete, all_complete, complete_part}
+use Rattle.lfs_meta.specs.HeldLaws.{IsHeldEntry, HeldPartsAreComplete}
 use Rattle.lfs_meta.proofs.LiveLemmas.{live-read}
 use Rattle.lfs_meta.proofs.ReplayFitsLemmas.{replay-fits}
-use Rattle.lfs_meta.proofs.WholeLemmas.{when_both}
+use Rattle.lfs_meta.proofs.CompleteLemmas.{when_both}
 
 -- ---- blocks
 
@@ -71,17 +71,17 @@ items_of logs items d pair tags disk first second is =
 -- ---- entries
 
 held_by : (n : Option (Kind × Name)) (b : Option StoredBody) (attributes : Attributes) (w : StoredEntry) → RiseFrom 0 attributes
-    → whole_by n b attributes ≡ Some w → IsHeldEntry w
+    → complete_by n b attributes ≡ Some w → IsHeldEntry w
 held_by None b attributes w rise is = cc
 held_by (Some n) None attributes w rise is = cc
 held_by (Some n) (Some b) attributes w rise is =
     let x : StoredEntry = record { kind = n.0; name = n.1; body = b; attributes = attributes } in
     let both : (x ≡ w) × (kind_takes_body n.0 b ≡ true) × (kind_takes_name n.0 n.1 ≡ true) =
     when_both (kind_takes_body n.0 b) (kind_takes_name n.0 n.1) x w is in
-    let held : IsHeldEntry x = record { whole = record { body = both.1; name = both.2 }; attributes = rise } in
+    let held : IsHeldEntry x = record { complete = record { body = both.1; name = both.2 }; attributes = rise } in
     subst IsHeldEntry both.0 held
 
-by_first : (e : RawEntry) (o : Option StoredEntry) (os : Option (List StoredEntry)) (ws : List StoredEntry) → RawEntryFits e → whole e ≡ o
+by_first : (e : RawEntry) (o : Option StoredEntry) (os : Option (List StoredEntry)) (ws : List StoredEntry) → RawEntryFits e → complete e ≡ o
     → option_and_then (λ w. option_map (λ vs. w ∷ vs) os) o ≡ Some ws → ((vs : List StoredEntry) → os ≡ Some vs → All IsHeldEntry vs)
     → All IsHeldEntry ws
 by_first e None os ws fits is all later = cc
@@ -90,14 +90,14 @@ by_first e (Some w) (Some vs) ws fits is all later =
     let same : w ∷ vs ≡ ws = cc in
     subst (All IsHeldEntry) same (All-cons IsHeldEntry w vs (held_by e.name e.body e.attributes w fits.attributes is) (later vs refl))
 
-held_entries : (es : List RawEntry) (ws : List StoredEntry) → All RawEntryFits es → all_whole es ≡ Some ws → All IsHeldEntry ws
+held_entries : (es : List RawEntry) (ws : List StoredEntry) → All RawEntryFits es → all_complete es ≡ Some ws → All IsHeldEntry ws
 held_entries [] ws fit all = let none : [] ≡ ws = cc in subst (All IsHeldEntry) none (All-nil IsHeldEntry)
-held_entries (e ∷ es) ws fit all = by_first e (whole e) (all_whole es) ws (All-head RawEntryFits e es fit) refl all
+held_entries (e ∷ es) ws fit all = by_first e (complete e) (all_complete es) ws (All-head RawEntryFits e es fit) refl all
     (λ vs. held_entries es vs (All-tail RawEntryFits e es fit))
 
 -- ---- parts
 
-by_part : (p : RawPart) (o : Option (List StoredEntry)) (s : StoredPart) → All RawEntryFits p.entries → all_whole p.entries ≡ o
+by_part : (p : RawPart) (o : Option (List StoredEntry)) (s : StoredPart) → All RawEntryFits p.entries → all_complete p.entries ≡ o
     → option_map (λ (es : List StoredEntry). let q : StoredPart = record { entries = es; tail = p.tail; delta = p.delta } in q) o ≡ Some s
     → All IsHeldEntry s.entries
 by_part p None s fit is some' = cc
@@ -105,9 +105,9 @@ by_part p (Some ws) s fit is some' =
     let same : ◌≡◌ {A = StoredPart} (record { entries = ws; tail = p.tail; delta = p.delta }) s = cc in
     subst (λ (q : StoredPart). All IsHeldEntry q.entries) same (held_entries p.entries ws fit is)
 
-pub held_parts : BlocksHaveALog → LogTagsAreItems → HeldPartsAreWhole
+pub held_parts : BlocksHaveALog → LogTagsAreItems → HeldPartsAreComplete
 held_parts logs items d pair s disk first second is =
-    option_and_then_some whole_part (option_and_then replay (tags_of d pair)) s is
-    (λ p there whole_is. option_and_then_some replay (tags_of d pair) p there
-    (λ tags tags_are replayed. by_part p (all_whole p.entries) s (replay-fits tags p
-    (items_of logs items d pair tags disk first second tags_are) replayed) refl whole_is))
+    option_and_then_some complete_part (option_and_then replay (tags_of d pair)) s is
+    (λ p there complete_is. option_and_then_some replay (tags_of d pair) p there
+    (λ tags tags_are replayed. by_part p (all_complete p.entries) s (replay-fits tags p
+    (items_of logs items d pair tags disk first second tags_are) replayed) refl complete_is))

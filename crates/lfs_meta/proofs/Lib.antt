@@ -12,5 +12,5 @@ pub mod PartlessLemmas
 pub mod HeldPartLemmas
 pub mod ReplayCounts
 pub mod HeldCounts
-pub mod WholeLemmas
+pub mod CompleteLemmas
 pub mod CuttingLoop

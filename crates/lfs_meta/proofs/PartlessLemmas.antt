@@ -19,8 +19,8 @@ use Rattle.lfs_meta.specs.LiveBlock.{tags_of, part_of}
 use Rattle.lfs_meta.specs.Name.{Name}
 use Rattle.lfs_meta.specs.Part.{RawPart, StoredPart, empty_part}
 use Rattle.lfs_meta.specs.Replay.{acted, step_by, step, replay_from, replay, HasUnknown, HasBadFrom}
-use Rattle.lfs_meta.specs.Whole.{kind_takes_body, kind_takes_name, IsIncompleteBy, IsIncomplete, IsMisnamedBy, IsMisnamed, whole_by, whole}
-use Rattle.lfs_meta.specs.Whole.{all_whole, whole_part}
+use Rattle.lfs_meta.specs.Complete.{kind_takes_body, kind_takes_name, IsIncompleteBy, IsIncomplete, IsMisnamedBy, IsMisnamed, complete_by, complete}
+use Rattle.lfs_meta.specs.Complete.{all_complete, complete_part}
 use Rattle.lfs_meta.specs.HeldLaws.{PairsWithoutAPartHaveACause}
 use Rattle.lfs_meta.proofs.ReplayLemmas.{bad-cons}
 
@@ -66,19 +66,19 @@ either_false false q x none = inl refl
 either_false true false x none = inr refl
 either_false true true x none = cc
 
-not_whole_by : (n : Option (Kind × Name)) (b : Option StoredBody) (attributes : Attributes) → whole_by n b attributes ≡ None
+not_complete_by : (n : Option (Kind × Name)) (b : Option StoredBody) (attributes : Attributes) → complete_by n b attributes ≡ None
     → IsIncompleteBy n b ⊎ IsMisnamedBy n
-not_whole_by None b attributes none = inl tt
-not_whole_by (Some n) None attributes none = inl tt
-not_whole_by (Some n) (Some b) attributes none = either_false (kind_takes_body n.0 b) (kind_takes_name n.0 n.1)
+not_complete_by None b attributes none = inl tt
+not_complete_by (Some n) None attributes none = inl tt
+not_complete_by (Some n) (Some b) attributes none = either_false (kind_takes_body n.0 b) (kind_takes_name n.0 n.1)
     (record { kind = n.0; name = n.1; body = b; attributes = attributes }) none
 
--- the first entry isn't whole, or a later one isn't
-by_first : (e : RawEntry) (es : List RawEntry) (o : Option StoredEntry) (os : Option (List StoredEntry)) → whole e ≡ o → all_whole es ≡ os
-    → option_and_then (λ w. option_map (λ ws. w ∷ ws) os) o ≡ None → (all_whole es ≡ None → Any IsIncomplete es ⊎ Any IsMisnamed es)
+-- the first entry isn't complete, or a later one isn't
+by_first : (e : RawEntry) (es : List RawEntry) (o : Option StoredEntry) (os : Option (List StoredEntry)) → complete e ≡ o → all_complete es ≡ os
+    → option_and_then (λ w. option_map (λ ws. w ∷ ws) os) o ≡ None → (all_complete es ≡ None → Any IsIncomplete es ⊎ Any IsMisnamed es)
     → Any IsIncomplete (e ∷ es) ⊎ Any IsMisnamed (e ∷ es)
 by_first e es None os first rest none later =
-    elim (not_whole_by e.name e.body e.attributes first) [
+    elim (not_complete_by e.name e.body e.attributes first) [
       | inl h ↦ inl (0, e, omega arith, refl, h)
       | inr h ↦ inr
           (0, e, omega arith, refl, h)
@@ -87,31 +87,31 @@ by_first e es (Some w) None first rest none later = elim (later rest)
     [ inl h ↦ inl (any_later IsIncomplete e es h) | inr h ↦ inr (any_later IsMisnamed e es h) ]
 by_first e es (Some w) (Some ws) first rest none later = cc
 
-not_all_whole : (es : List RawEntry) → all_whole es ≡ None → Any IsIncomplete es ⊎ Any IsMisnamed es
-not_all_whole [] none = cc
-not_all_whole (e ∷ es) none = by_first e es (whole e) (all_whole es) refl refl none (not_all_whole es)
+not_all_complete : (es : List RawEntry) → all_complete es ≡ None → Any IsIncomplete es ⊎ Any IsMisnamed es
+not_all_complete [] none = cc
+not_all_complete (e ∷ es) none = by_first e es (complete e) (all_complete es) refl refl none (not_all_complete es)
 
 -- ---- pairs
 
 abbrev HasPairCause : Disk → Pair → Type 0
 HasPairCause d pair = (f : MountFault) × PairCause f d pair
 
-by_entries : (d : Disk) (pair : Pair) (p : RawPart) (o : Option (List StoredEntry)) → part_of d pair ≡ Some p → all_whole p.entries ≡ o
+by_entries : (d : Disk) (pair : Pair) (p : RawPart) (o : Option (List StoredEntry)) → part_of d pair ≡ Some p → all_complete p.entries ≡ o
     → option_map (λ (es : List StoredEntry). let q : StoredPart = record { entries = es; tail = p.tail; delta = p.delta } in q) o ≡ None
     → HasPairCause d pair
-by_entries d pair p None part entries none = elim (not_all_whole p.entries entries)
+by_entries d pair p None part entries none = elim (not_all_complete p.entries entries)
     [ inl h ↦ (fault.IncompleteEntry, (p, part, h)) | inr h ↦ (fault.BadName, (p, part, h)) ]
 by_entries d pair p (Some es) part entries none = cc
 
 by_part : (d : Disk) (pair : Pair) (tags : List Item) (o : Option RawPart) → tags_of d pair ≡ Some tags → replay tags ≡ o
-    → option_and_then whole_part o ≡ None → HasPairCause d pair
+    → option_and_then complete_part o ≡ None → HasPairCause d pair
 by_part d pair tags None is replayed none = elim (refused empty_part tags replayed)
     [ inl h ↦ (fault.UnknownTag, (tags, is, h)) | inr h ↦ (fault.BadTag, (tags, is, h)) ]
-by_part d pair tags (Some p) is replayed none = by_entries d pair p (all_whole p.entries)
+by_part d pair tags (Some p) is replayed none = by_entries d pair p (all_complete p.entries)
     (ap (option_and_then replay) is ∙ replayed) refl none
 
 by_tags : (d : Disk) (pair : Pair) (o : Option (List Item)) → tags_of d pair ≡ o
-    → option_and_then whole_part (option_and_then replay o) ≡ None → HasPairCause d pair
+    → option_and_then complete_part (option_and_then replay o) ≡ None → HasPairCause d pair
 by_tags d pair None is none = (fault.NoValidCommit, is)
 by_tags d pair (Some tags) is none = by_part d pair tags (replay tags) is refl none
 

@@ -22,14 +22,14 @@ replay_from-none p = refl
 
 -- the replay of all tags has come to the part p, and has these left
 pub record IsReplayedTo (all : List Item) (p : RawPart) (left : List Item) : Type 0 where
-  pub whole : replay all ≡ replay_from p left
+  pub complete : replay all ≡ replay_from p left
   pub items : AllByRecursion IsItem left
   pub unknown : HasUnknown left → HasUnknown all
   pub bad : HasBadFrom p left → HasBad all
 
 pub replay-first : (all : List Item) (p : RawPart) → p ≡ empty_part → AllByRecursion IsItem all → IsReplayedTo all p all
 replay-first all p e items = record {
-  whole = ap (λ q. replay_from q all) (sym e);
+  complete = ap (λ q. replay_from q all) (sym e);
   items = items;
   unknown = λ h. h;
   bad = λ h. subst (λ q. HasBadFrom q all) e h;
@@ -45,7 +45,7 @@ any-cons P t ts (k, x, within, is, holds) = (suc k, x, omega arith, is, holds)
 more : (all : List Item) (p q : RawPart) (t : Item) (ts : List Item) → IsReplayedTo all p (t ∷ ts) → step p t ≡ Some q
     → IsReplayedTo all q ts
 more all p q t ts h e = record {
-  whole = h.whole ∙ replay_from-cons p q t ts e;
+  complete = h.complete ∙ replay_from-cons p q t ts e;
   items = h.items.1;
   unknown = λ u. h.unknown (any-cons (λ i. action_of (kind_of i.word) ≡ None) t ts u);
   bad = λ b. h.bad (bad-cons p q t ts e b);
@@ -56,7 +56,7 @@ pub replay-more : (all : List Item) (p q : RawPart) (t : Item) (ts left : List I
 replay-more all p q t ts left h split e = more all p q t ts (subst (IsReplayedTo all p) split h) e
 
 pub replay-all : (all : List Item) (p : RawPart) (left : List Item) → IsReplayedTo all p left → left ≡ [] → replay all ≡ Some p
-replay-all all p left h none = h.whole ∙ ap (replay_from p) none ∙ replay_from-none p
+replay-all all p left h none = h.complete ∙ ap (replay_from p) none ∙ replay_from-none p
 
 refused : (f : MountFault) (all : List Item) (p : RawPart) (t : Item) (ts : List Item) → IsReplayedTo all p (t ∷ ts) → StepCause f p t
     → TagsCause f all

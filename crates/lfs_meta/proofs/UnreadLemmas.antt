@@ -15,8 +15,8 @@ use Rattle.lfs_meta.specs.Body.{Pair, StoredBody}
 use Rattle.lfs_meta.specs.Entry.{RawEntry}
 use Rattle.lfs_meta.specs.Part.{RawPart, empty_part}
 use Rattle.lfs_meta.specs.Replay.{acted, step_by, step, replay_from, replay, HasBadFrom}
-use Rattle.lfs_meta.specs.Whole.{kind_takes_body, kind_takes_name, IsIncompleteBy, IsIncomplete, IsMisnamedBy, IsMisnamed, whole_by, whole}
-use Rattle.lfs_meta.specs.Whole.{all_whole, whole_part}
+use Rattle.lfs_meta.specs.Complete.{kind_takes_body, kind_takes_name, IsIncompleteBy, IsIncomplete, IsMisnamedBy, IsMisnamed, complete_by, complete}
+use Rattle.lfs_meta.specs.Complete.{all_complete, complete_part}
 use Rattle.lfs_meta.specs.LiveBlock.{stored_part_of}
 use Rattle.lfs_meta.specs.Cause.{PairCause}
 
@@ -58,7 +58,7 @@ bad p ts (front, t, after, is, q, replayed, a, known, refused) =
     ap (replay_from p) is ∙ along p q front (t ∷ after) replayed ∙ bad-here q t after a known refused
 
 incomplete_by : (n : Option (Kind × List ℕ)) (b : Option StoredBody) (attributes : Attributes) → IsIncompleteBy n b
-    → whole_by n b attributes ≡ None
+    → complete_by n b attributes ≡ None
 incomplete_by None b attributes h = refl
 incomplete_by (Some n) None attributes h = refl
 incomplete_by (Some n) (Some b) attributes h = rw h refl
@@ -68,35 +68,35 @@ and_false true b e = e
 and_false false b e = refl
 
 misnamed_by : (n : Option (Kind × List ℕ)) (b : Option StoredBody) (attributes : Attributes) → IsMisnamedBy n
-    → whole_by n b attributes ≡ None
+    → complete_by n b attributes ≡ None
 misnamed_by None b attributes h = refl
 misnamed_by (Some n) None attributes h = refl
 misnamed_by (Some n) (Some b) attributes h =
     ap (λ t. if t then Some (record { kind = n.0; name = n.1; body = b; attributes = attributes }) else None)
     (and_false (kind_takes_body n.0 b) (kind_takes_name n.0 n.1) h)
 
--- one entry that isn't whole
-not_whole : (P : RawEntry → Type 0) → ((e : RawEntry) → P e → whole e ≡ None) → (es : List RawEntry) (k : ℕ) (e : RawEntry)
-    → k < length es → slice_index_or es k e ≡ e → P e → all_whole es ≡ None
-not_whole P none [] k e within is h = absurd (omega arith)
-not_whole P none (x ∷ es) zero e within is h = ap (option_and_then (λ w. option_map (λ ws. w ∷ ws) (all_whole es))) (ap whole is ∙ none e h)
-not_whole P none (x ∷ es) (suc k) e within is h =
-    and_then-none (λ w. option_map (λ ws. w ∷ ws) (all_whole es)) (whole x)
-    (λ w. ap (option_map (λ ws. w ∷ ws)) (not_whole P none es k e (omega arith) is h))
+-- one entry that isn't complete
+not_complete : (P : RawEntry → Type 0) → ((e : RawEntry) → P e → complete e ≡ None) → (es : List RawEntry) (k : ℕ) (e : RawEntry)
+    → k < length es → slice_index_or es k e ≡ e → P e → all_complete es ≡ None
+not_complete P none [] k e within is h = absurd (omega arith)
+not_complete P none (x ∷ es) zero e within is h = ap (option_and_then (λ w. option_map (λ ws. w ∷ ws) (all_complete es))) (ap complete is ∙ none e h)
+not_complete P none (x ∷ es) (suc k) e within is h =
+    and_then-none (λ w. option_map (λ ws. w ∷ ws) (all_complete es)) (complete x)
+    (λ w. ap (option_map (λ ws. w ∷ ws)) (not_complete P none es k e (omega arith) is h))
 
 pub unread : (f : MountFault) (d : Disk) (pair : Pair) → PairCause f d pair → stored_part_of d pair ≡ None
-unread fault.NoValidCommit d pair none = ap (λ o. option_and_then whole_part (option_and_then replay o)) none
+unread fault.NoValidCommit d pair none = ap (λ o. option_and_then complete_part (option_and_then replay o)) none
 unread fault.UnknownTag d pair (tags, is, h) =
-    ap (λ o. option_and_then whole_part (option_and_then replay o)) is ∙ ap (option_and_then whole_part)
+    ap (λ o. option_and_then complete_part (option_and_then replay o)) is ∙ ap (option_and_then complete_part)
     (unknown empty_part tags h.0 h.1 h.2 h.3 h.4)
 unread fault.BadTag d pair (tags, is, h) =
-    ap (λ o. option_and_then whole_part (option_and_then replay o)) is ∙ ap (option_and_then whole_part) (bad empty_part tags h)
+    ap (λ o. option_and_then complete_part (option_and_then replay o)) is ∙ ap (option_and_then complete_part) (bad empty_part tags h)
 unread fault.IncompleteEntry d pair (p, is, h) =
-    ap (option_and_then whole_part) is
+    ap (option_and_then complete_part) is
     ∙ ap (option_map (λ es. record { entries = es; tail = p.tail; delta = p.delta }))
-    (not_whole IsIncomplete (λ e i. incomplete_by e.name e.body e.attributes i) p.entries h.0 h.1 h.2 h.3 h.4)
+    (not_complete IsIncomplete (λ e i. incomplete_by e.name e.body e.attributes i) p.entries h.0 h.1 h.2 h.3 h.4)
 unread fault.BadName d pair (p, is, h) =
-    ap (option_and_then whole_part) is
+    ap (option_and_then complete_part) is
     ∙ ap (option_map (λ es. record { entries = es; tail = p.tail; delta = p.delta }))
-    (not_whole IsMisnamed (λ e i. misnamed_by e.name e.body e.attributes i) p.entries h.0 h.1 h.2 h.3 h.4)
+    (not_complete IsMisnamed (λ e i. misnamed_by e.name e.body e.attributes i) p.entries h.0 h.1 h.2 h.3 h.4)
 unread _ d pair h = absurd h

@@ -10,7 +10,7 @@ use Rattle.lfs_meta.specs.LiveBlock.{tags_of, part_of}
 use Rattle.lfs_meta.specs.Entry.{RawEntry}
 use Rattle.lfs_meta.specs.Part.{RawPart}
 use Rattle.lfs_meta.specs.Replay.{HasUnknown, HasBad}
-use Rattle.lfs_meta.specs.Whole.{IsIncomplete, IsMisnamed}
+use Rattle.lfs_meta.specs.Complete.{IsIncomplete, IsMisnamed}
 
 -- why tags don't replay; want of memory has no cause
 abbrev pub TagsCause : MountFault → List Item → Type 0
@@ -27,7 +27,7 @@ DraftCause BadTag d pair = (tags : List Item) × (tags_of d pair ≡ Some tags) 
 DraftCause Memory d pair = Unit {0}
 DraftCause _ d pair = ⊥
 
--- why a pair holds no part all of whose entries are whole
+-- why a pair holds no part all of whose entries are complete
 abbrev pub PairCause : MountFault → Disk → Pair → Type 0
 PairCause NoValidCommit d pair = tags_of d pair ≡ None
 PairCause UnknownTag d pair = (tags : List Item) × (tags_of d pair ≡ Some tags) × HasUnknown tags
@@ -36,7 +36,7 @@ PairCause IncompleteEntry d pair = (p : RawPart) × (part_of d pair ≡ Some p) 
 PairCause BadName d pair = (p : RawPart) × (part_of d pair ≡ Some p) × Any IsMisnamed p.entries
 PairCause _ d pair = ⊥
 
--- why an entry isn't made whole; want of memory has no cause
+-- why an entry isn't made complete; want of memory has no cause
 abbrev pub EntryCause : MountFault → RawEntry → Type 0
 EntryCause IncompleteEntry e = IsIncomplete e
 EntryCause BadName e = IsMisnamed e
@@ -50,7 +50,7 @@ EntriesCause BadName es = Any IsMisnamed es
 EntriesCause Memory es = Unit {0}
 EntriesCause _ es = ⊥
 
--- why a pair isn't read: it holds no part all of whose entries are whole, or want of memory, which has no cause
+-- why a pair isn't read: it holds no part all of whose entries are complete, or want of memory, which has no cause
 abbrev pub ReadCause : MountFault → Disk → Pair → Type 0
 ReadCause Memory d pair = Unit {0}
 ReadCause fault d pair = PairCause fault d pair

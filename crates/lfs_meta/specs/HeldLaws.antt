@@ -8,20 +8,20 @@ use Rattle.lfs_meta.specs.Entry.{StoredEntry}
 use Rattle.lfs_meta.specs.Fits.{RiseFrom}
 use Rattle.lfs_meta.specs.LiveBlock.{stored_part_of}
 use Rattle.lfs_meta.specs.Part.{StoredPart}
-use Rattle.lfs_meta.specs.Whole.{IsWhole}
+use Rattle.lfs_meta.specs.Complete.{IsComplete}
 
 -- a pair that holds no part has a cause
 abbrev pub PairsWithoutAPartHaveACause : Type 0
 PairsWithoutAPartHaveACause = (d : Disk) (pair : Pair) → stored_part_of d pair ≡ None → (fault : MountFault) × PairCause fault d pair
 
--- an entry is whole, and its attributes rise strictly by kind
+-- an entry is complete, and its attributes rise strictly by kind
 pub record IsHeldEntry (e : StoredEntry) : Type 0 where
-  pub whole : IsWhole e
+  pub complete : IsComplete e
   pub attributes : RiseFrom 0 e.attributes
 
 -- the entries of a part that a pair of the disk holds are of this form
-abbrev pub HeldPartsAreWhole : Type 0
-HeldPartsAreWhole = (d : Disk) (pair : Pair) (p : StoredPart) → IsDisk d → pair.0 < d.count → pair.1 < d.count
+abbrev pub HeldPartsAreComplete : Type 0
+HeldPartsAreComplete = (d : Disk) (pair : Pair) (p : StoredPart) → IsDisk d → pair.0 < d.count → pair.1 < d.count
     → stored_part_of d pair ≡ Some p → All IsHeldEntry p.entries
 
 -- a part that a pair of the disk holds has no more entries than the largest block has bytes

@@ -7,7 +7,7 @@ pub mod Part
 pub mod Action
 pub mod Replay
 pub mod Step
-pub mod Whole
+pub mod Complete
 pub mod LiveBlock
 pub mod Laws
 pub mod Cause

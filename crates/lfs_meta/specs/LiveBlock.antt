@@ -10,7 +10,7 @@ use Rattle.lfs_meta.specs.declared.live_block.LiveBlock.TheVariants.{First, Seco
 use Rattle.lfs_meta.specs.Body.{Pair}
 use Rattle.lfs_meta.specs.Part.{RawPart, StoredPart}
 use Rattle.lfs_meta.specs.Replay.{replay}
-use Rattle.lfs_meta.specs.Whole.{whole_part}
+use Rattle.lfs_meta.specs.Complete.{complete_part}
 
 -- a block's revision, its first four bytes
 abbrev pub revision : List ℕ → ℕ
@@ -63,6 +63,6 @@ tags_of d pair = live_tags (block_of d pair.0) (block_of d pair.1)
 abbrev pub part_of : Disk → Pair → Option RawPart
 part_of d pair = option_and_then replay (tags_of d pair)
 
--- the same, where all entries are whole
+-- the same, where all entries are complete
 abbrev pub stored_part_of : Disk → Pair → Option StoredPart
-stored_part_of d pair = option_and_then whole_part (part_of d pair)
+stored_part_of d pair = option_and_then complete_part (part_of d pair)

@@ -14,7 +14,7 @@ pub record RawPart : Type 0 where
 unfoldable pub empty_part : RawPart
 empty_part = record { entries = []; tail = End; delta = replicate 12 0 }
 
--- all of whose entries are whole
+-- all of whose entries are complete
 pub record StoredPart : Type 0 where
   pub entries : List StoredEntry
   pub tail : Tail

@@ -29,7 +29,7 @@ impl Action {
     ghost use Rattle.lfs_tag.specs.Tags.{item_with};
     ghost use Rattle.lfs_meta.specs.Action.{action_of, is_bad};
 
-    /// What a tag of this type does, `None` where the type isn't known. Takes no memory.
+    /// What a tag of this type does, `None` where the type isn't known.
     #[tactic(auto, unfolding(crate::specs::Action::action_of))]
     pub(crate) fn of(kind: u16) -> Option<Action>
         ensures { result ≡ action_of kind }
@@ -47,7 +47,7 @@ impl Action {
     }
 
     /// Whether a tag of this action is refused where there are `count` entries, for its id or its length. `bytes` are
-    /// the tag's data. Takes no memory.
+    /// the tag's data.
     #[tactic(auto, unfolding(crate::specs::Action::is_bad))]
     pub(crate) fn is_bad(self, tag: Tag, bytes: &[u8], count: usize) -> bool
         ensures { result ≡ is_bad self (item_with tag bytes.now) count }

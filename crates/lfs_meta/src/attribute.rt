@@ -38,10 +38,7 @@ impl HasKind for Attribute {
     }
 }
 
-/// Sets the value of a kind among attributes that rise by kind. The caller owes a value of at most 1,022 bytes. Want of
-/// memory changes nothing.
-///
-/// Source: own.
+/// Sets the value of a kind among attributes that rise by kind. Want of memory changes nothing.
 pub fn set_attribute(
     attributes: &mut Vec<Attribute>,
     alloc: Global,
@@ -57,9 +54,7 @@ pub fn set_attribute(
     set(attributes, Attribute { kind, value })
 }
 
-/// Takes the value of a kind out of attributes. Takes no memory.
-///
-/// Source: own.
+/// Takes the value of a kind out of attributes.
 pub fn remove_attribute(attributes: &mut Vec<Attribute>, kind: u8)
     ensures removed { attributes.new.items ≡ remove_attribute kind attributes.old.items }
     ensures rise { RiseFrom 0 attributes.old.items → RiseFrom 0 attributes.new.items }

@@ -17,8 +17,6 @@ fn copied_attribute(alloc: Global, attribute: &Attribute) -> Result<Attribute, A
 }
 
 /// A copy of attributes. Each of them fits into a tag.
-///
-/// Source: own.
 pub fn copied_attributes(
     alloc: Global,
     attributes: &[Attribute],

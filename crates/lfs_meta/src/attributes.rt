@@ -43,7 +43,7 @@ pub(crate) fn set<A: HasKind + Drop>(
     Ok(())
 }
 
-/// Takes the attribute of a kind out. Takes no memory.
+/// Takes the attribute of a kind out.
 pub(crate) fn remove<A: HasKind + Drop>(attributes: &mut Vec<A>, kind: u8)
     ensures { attributes.new.items ≡ filter (λ a. not (kind == A.kind_of a)) attributes.old.items }
 {

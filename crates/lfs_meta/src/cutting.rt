@@ -12,9 +12,7 @@ use std::alloc::Global;
 const MOST_ENTRIES: usize = 1_000;
 
 /// Whether a run that weighs `taken` and has `len` entries takes one more of weight `next`: it weighs no more than the room, and has at
-/// most 1,000 entries. Takes no memory.
-///
-/// Source: own.
+/// most 1,000 entries.
 pub fn run_takes(room: u32, taken: u32, len: usize, next: u32) -> bool
     requires { taken + next < 2 ^ 32 }
     ensures { result ≡ run_takes room taken len next }
@@ -25,8 +23,6 @@ pub fn run_takes(room: u32, taken: u32, len: usize, next: u32) -> bool
 /// The lengths of the runs into which entries are cut where a pair has `room` bytes for them: a run takes the next entry as
 /// long as it weighs no more than that and has at most 1,000 entries. There is always a first run. An entry that weighs
 /// more than `room` stands alone in a run, behind an empty one where it is the first. `None` where memory is refused.
-///
-/// Source: own.
 pub fn cut(alloc: Global, entries: &[Entry], room: u32) -> Option<Vec<usize>>
     requires { room ≤ 65536 }
     ensures { IfSome result (λ lengths. lengths.items ≡ map (λ run. length run) (runs_after weight room 0 0 entries.now)) }

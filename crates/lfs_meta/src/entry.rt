@@ -49,7 +49,7 @@ impl Entry {
     ghost use Rattle.lfs_meta.specs.Attribute.{set_attribute, remove_attribute};
     ghost use Rattle.lfs_meta.specs.Entry.{with_attributes};
 
-    /// Whether the entry has an attribute of a kind. Takes no memory.
+    /// Whether the entry has an attribute of a kind.
     pub fn has_attribute(&self, kind: u8) -> bool
         ensures { result ≡ list_any (λ a. kind == a.0) self.now.attributes }
     {
@@ -58,7 +58,7 @@ impl Entry {
             .any(|attribute| kind == attribute.kind)
     }
 
-    /// Sets the value of a kind. The caller owes a value of at most 1,022 bytes. Want of memory changes nothing.
+    /// Sets the value of a kind. Want of memory changes nothing.
     pub fn set_attribute(&mut self, alloc: Global, kind: u8, value: &[u8]) -> Result<(), AllocError>
         requires { length value.now < 1023 }
         ensures set { OnOk result (self.new ≡ with_attributes (set_attribute kind value.now) self.old) }
@@ -67,7 +67,7 @@ impl Entry {
         set_attribute(&mut self.attributes, alloc, kind, value)
     }
 
-    /// Takes the value of a kind out. Takes no memory.
+    /// Takes the value of a kind out.
     pub fn remove_attribute(&mut self, kind: u8)
         ensures { self.new ≡ with_attributes (remove_attribute kind) self.old }
     {

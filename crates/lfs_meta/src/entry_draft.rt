@@ -37,7 +37,7 @@ impl<'a> EntryDraft<'a> {
     ghost use Rattle.std.specs.Prelude.{◌≡◌};
     ghost use Rattle.lfs_meta.specs.Entry.{blank};
 
-    /// An entry without anything. Takes no memory.
+    /// An entry without anything.
     pub(crate) fn blank(alloc: Global) -> Self
         ensures { result ≡ blank }
     {

@@ -12,7 +12,7 @@ pub fn parts_depend_on_their_blocks()
     ensures { PartsDependOnTheirBlocks }
 {}
 
-/// A pair that has a cause holds no part all of whose entries are whole.
+/// A pair that has a cause holds no part all of whose entries are complete.
 pub fn unread_pairs_hold_no_part()
     ensures { UnreadPairsHoldNoPart }
 {}

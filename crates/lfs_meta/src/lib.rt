@@ -8,6 +8,7 @@ mod attribute_ref;
 mod attributes;
 mod body;
 mod body_ref;
+mod complete;
 mod cutting;
 mod entry;
 mod entry_draft;
@@ -23,7 +24,6 @@ mod replay;
 mod runs;
 mod tail;
 mod weighing;
-mod whole;
 
 pub use attribute::{Attribute, remove_attribute, set_attribute};
 pub use attribute_copies::copied_attributes;
@@ -31,7 +31,7 @@ pub use body::Body;
 pub use cutting::{cut, run_takes};
 pub use entry::Entry;
 pub use held_laws::{
-    held_parts_are_whole, held_parts_have_few_entries, pairs_without_a_part_have_a_cause,
+    held_parts_are_complete, held_parts_have_few_entries, pairs_without_a_part_have_a_cause,
 };
 pub use kind::Kind;
 pub use laws::{

@@ -6,7 +6,7 @@ ghost use Rattle.lfs_meta.specs.LiveBlock.{committed_log, is_later, live_block, 
 use byteorder::{ByteOrder, LittleEndian};
 use lfs_tag::Log;
 
-/// A block's revision. The caller owes four bytes or more. Takes no memory.
+/// A block's revision.
 ///
 /// Source: SPEC.md, "Metadata pairs".
 pub fn revision(block: &[u8]) -> u32
@@ -16,7 +16,7 @@ pub fn revision(block: &[u8]) -> u32
     LittleEndian::read_u32(block)
 }
 
-/// Whether revision `a` comes after `b`, where revisions are counted around 2^32. Takes no memory.
+/// Whether revision `a` comes after `b`, where revisions are counted around 2^32.
 ///
 /// Source: SPEC.md, "Metadata pairs".
 pub(crate) fn is_later(a: u32, b: u32) -> bool
@@ -52,8 +52,7 @@ impl<'a> LiveBlock<'a> {
     ghost use Rattle.std.specs.Prelude.{◌≡◌, ◌≤◌, length};
     ghost use Rattle.lfs_meta.specs.LiveBlock.{live_block};
 
-    /// The live block of two. The second one is tried first where its revision is the later one, else the first one. The caller owes
-    /// blocks of four bytes or more. Takes no memory.
+    /// The live block of two. The second one is tried first where its revision is the later one, else the first one.
     ///
     /// Source: SPEC.md, "Metadata pairs"; the first block where neither is later: own.
     pub fn of(first: &'a [u8], second: &'a [u8]) -> LiveBlock<'a>
@@ -82,7 +81,7 @@ impl<'a> LiveBlock<'a> {
 }
 
 /// The log of the live block of a pair, `None` where no block has a commit. The second block is tried first where its
-/// revision is the later one, else the first one. The caller owes blocks of four bytes or more. Takes no memory.
+/// revision is the later one, else the first one.
 ///
 /// Source: SPEC.md, "Metadata pairs"; the first block where neither is later: own.
 pub(crate) fn live<'a>(first: &'a [u8], second: &'a [u8]) -> Option<Log<'a>>

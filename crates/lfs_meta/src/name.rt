@@ -12,8 +12,6 @@ fn has_no_slash(name: &[u8]) -> bool
 }
 
 /// Whether a file or a directory may have this name: it has at least one byte, and no slash, and isn't `.` or `..`.
-///
-/// Source: own.
 pub fn is_name(name: &[u8]) -> bool
     ensures { result ≡ is_name name.now }
 {

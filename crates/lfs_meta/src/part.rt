@@ -1,4 +1,4 @@
-//! What a metadata pair holds, all of whose entries are whole.
+//! What a metadata pair holds, all of whose entries are complete.
 
 use crate::entry::Entry;
 use crate::tail::Tail;

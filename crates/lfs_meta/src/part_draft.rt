@@ -18,7 +18,7 @@ use lfs_tag::{DELETED, Tag};
 use std::alloc::{AllocError, Global};
 use std::marker::Model;
 
-/// What a metadata pair holds, as tags leave it: entries that may not be whole, how the thread goes on, and the pair's
+/// What a metadata pair holds, as tags leave it: entries that may not be complete, how the thread goes on, and the pair's
 /// share of the global state. What it holds is borrowed from a block.
 ///
 /// Source: SPEC.md, "Metadata types".
@@ -48,7 +48,7 @@ impl<'a> PartDraft<'a> {
     ghost use Rattle.lfs_meta.specs.Replay.{acted, step};
     ghost use Rattle.lfs_meta.specs.Step.{StepCause};
 
-    /// What a pair holds before its first tag. Takes no memory.
+    /// What a pair holds before its first tag.
     #[tactic(auto, unfolding(crate::specs::Part::empty_part))]
     pub(crate) fn empty(alloc: Global) -> Self
         ensures { result ≡ empty_part }

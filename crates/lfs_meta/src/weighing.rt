@@ -34,10 +34,7 @@ fn tags_len(attributes: &[Attribute]) -> u32
     sum
 }
 
-/// The bytes that attributes take of a block: four for the tag of each, with its value. The caller owes that they rise by
-/// kind. Takes no memory.
-///
-/// Source: own.
+/// The bytes that attributes take of a block: four for the tag of each, with its value.
 pub fn attributes_weight(attributes: &[Attribute]) -> u32
     requires { RiseFrom 0 attributes.now }
     ensures value { result ≡ attributes_weight attributes.now }
@@ -57,9 +54,7 @@ fn body_len(body: &Body) -> usize
 }
 
 /// The bytes that an entry takes of a block: four for each of its tags, with its name, its struct's data and its
-/// attributes' values. Takes no memory.
-///
-/// Source: own.
+/// attributes' values.
 pub fn weight(entry: &Entry) -> u32
     ensures value { result ≡ weight entry.now }
     ensures small { result ≤ 264708 }

@@ -15,7 +15,7 @@ use Rattle.lfs_fs.specs.DiskBut.{IsDiskBut}
 
 made_fit : (d : Disk) (cs : List Change) → AllByRecursion (CanBeMade d) cs → AllByRecursion (FitsDisk d) cs
 made_fit d [] made = tt
-made_fit d (c ∷ cs) made = ((made.0.stands.0, made.0.whole), made_fit d cs made.1)
+made_fit d (c ∷ cs) made = ((made.0.stands.0, made.0.complete), made_fit d cs made.1)
 
 -- what blocks hold then
 each_after : (d e : Disk) (cs : List Change) → ((n : ℕ) → block_of e n ≡ block_after d cs n) → (ns : List ℕ)

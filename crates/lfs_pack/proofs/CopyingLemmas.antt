@@ -16,33 +16,33 @@ pub same_shown : (d : Disk) (e : Entry) (p q : Path) → p ≡ q
 same_shown d e p q same = ap (λ (r : Path). shown_text d (record { path = r; entry = e })) same
 
 -- some rows are copied, and these are left
-pub record AreLeft (d : Disk) (copied : List RowText) (left whole : List Row) : Type 0 where
-  pub all : copied ++ map (shown_text d) left ≡ map (shown_text d) whole
+pub record AreLeft (d : Disk) (copied : List RowText) (left complete : List Row) : Type 0 where
+  pub all : copied ++ map (shown_text d) left ≡ map (shown_text d) complete
   pub blocks : All (λ (r : Row). HasBlocks d r.entry.body) left
 
 pub all_left : (d : Disk) (rows : List Row) → All (λ (r : Row). HasBlocks d r.entry.body) rows → AreLeft d [] rows rows
 all_left d rows blocks = record { all = refl; blocks = blocks }
 
-module _ (d : Disk) (copied : List RowText) (q : Path) (left later : List Listed) (x : Listed) (whole : List Row)
-    (h : AreLeft d copied (rows_after q left) whole) (first : left ≡ x ∷ later) where
+module _ (d : Disk) (copied : List RowText) (q : Path) (left later : List Listed) (x : Listed) (complete : List Row)
+    (h : AreLeft d copied (rows_after q left) complete) (first : left ≡ x ∷ later) where
   abbrev next : List Row
   next = rows_after (path_after q x.depth x.entry.name) later
 
-  here : AreLeft d copied (row_after q x ∷ next) whole
-  here = subst (λ (xs : List Listed). AreLeft d copied (rows_after q xs) whole) first h
+  here : AreLeft d copied (row_after q x ∷ next) complete
+  here = subst (λ (xs : List Listed). AreLeft d copied (rows_after q xs) complete) first h
 
   pub has_blocks : HasBlocks d x.entry.body
   has_blocks = All-head (λ (r : Row). HasBlocks d r.entry.body) (row_after q x) next here.blocks
 
   -- one more is copied
-  pub one_more : AreLeft d (copied ++ shown_text d (row_after q x) ∷ []) next whole
+  pub one_more : AreLeft d (copied ++ shown_text d (row_after q x) ∷ []) next complete
   one_more = record {
     all = append_assoc copied (shown_text d (row_after q x) ∷ []) (map (shown_text d) next) ∙ here.all;
     blocks = All-tail (λ (r : Row). HasBlocks d r.entry.body) (row_after q x) next here.blocks;
   }
 
-pub all_copied : (d : Disk) (copied : List RowText) (q : Path) (left : List Listed) (whole : List Row)
-    → AreLeft d copied (rows_after q left) whole → left ≡ [] → copied ≡ map (shown_text d) whole
-all_copied d copied q left whole h none =
-    let here : AreLeft d copied [] whole = subst (λ (xs : List Listed). AreLeft d copied (rows_after q xs) whole) none h in
+pub all_copied : (d : Disk) (copied : List RowText) (q : Path) (left : List Listed) (complete : List Row)
+    → AreLeft d copied (rows_after q left) complete → left ≡ [] → copied ≡ map (shown_text d) complete
+all_copied d copied q left complete h none =
+    let here : AreLeft d copied [] complete = subst (λ (xs : List Listed). AreLeft d copied (rows_after q xs) complete) none h in
     sym (append-nil copied) ∙ here.all

@@ -19,7 +19,7 @@ use Rattle.lfs_command.specs.Command.{Command, Mkdir, Put, Rm, Mv, SetAttr, RmAt
 use Rattle.lfs_command.specs.Cut.{HasEnough, cut}
 use Rattle.lfs_command.specs.Edited.{edited, make_directory, move_entry, put_file, remove_entry, set_attributes}
 use Rattle.lfs_command.specs.Growth.{grown}
-use Rattle.lfs_command.specs.Home.{home_of}
+use Rattle.lfs_command.specs.Parent.{parent_of}
 use Rattle.lfs_command.specs.Leading.{leading_pair}
 use Rattle.lfs_command.specs.Need.{data_blocks, directory_blocks, dirty_parts, need, part_blocks}
 use Rattle.lfs_command.specs.Ordered.{blocks_chosen, blocks_made, leader, overflowing_led}
@@ -66,12 +66,12 @@ set_counted m v f (Some h) = refl
 pub edited_counted : (m : ℕ) (v : Volume) (c : Command) (s : Supplies) → KeepsCount c
     → edited (with_count m v) c s ≡ with_count m (edited v c s)
 unfolding KeepsCount
-edited_counted m v (Mkdir p) s keeps = make_counted m v s.pair (home_of v p)
-edited_counted m v (Put p bytes) s keeps = put_counted m v (new_body v s bytes) (home_of v p) (entry_at v p)
-edited_counted m v (Rm p) s keeps = remove_counted m v (home_of v p) (entry_at v p)
-edited_counted m v (Mv p q) s keeps = move_counted m v (home_of v p) (home_of v q) (entry_at v p)
-edited_counted m v (SetAttr p k value) s keeps = set_counted m v (set_attribute k value) (home_of v p)
-edited_counted m v (RmAttr p k) s keeps = set_counted m v (remove_attribute k) (home_of v p)
+edited_counted m v (Mkdir p) s keeps = make_counted m v s.pair (parent_of v p)
+edited_counted m v (Put p bytes) s keeps = put_counted m v (new_body v s bytes) (parent_of v p) (entry_at v p)
+edited_counted m v (Rm p) s keeps = remove_counted m v (parent_of v p) (entry_at v p)
+edited_counted m v (Mv p q) s keeps = move_counted m v (parent_of v p) (parent_of v q) (entry_at v p)
+edited_counted m v (SetAttr p k value) s keeps = set_counted m v (set_attribute k value) (parent_of v p)
+edited_counted m v (RmAttr p k) s keeps = set_counted m v (remove_attribute k) (parent_of v p)
 edited_counted m v (Grow n) s keeps = let one : n ≡ 0 = keeps 0 in let two : n ≡ 1 = keeps 1 in absurd (omega (arith, one, two))
 
 data_counted : (m : ℕ) (v : Volume) (c : Command) → data_blocks (with_count m v) c ≡ data_blocks v c

@@ -17,8 +17,8 @@ use Rattle.lfs_pack.specs.Unwritten.{IsErased}
 -- ---- they are no fault
 
 -- bytes that are an image are none
-whole : (d : Disk) → IsDisk d → (length d.bytes % d.size ≡ 0) × (length d.bytes / d.size ≡ d.count)
-whole d is =
+complete : (d : Disk) → IsDisk d → (length d.bytes % d.size ≡ 0) × (length d.bytes / d.size ≡ d.count)
+complete d is =
     let positive : 0 < d.size = omega (arith, is.geometry.size_fits.0) in
     let plain : length d.bytes ≡ d.count * d.size + 0 = is.len ∙ sym (add-zero (d.count * d.size)) in (
       ap (λ (n : ℕ). n % d.size) is.len ∙ mul-mod_left d.count d.size,
@@ -26,10 +26,10 @@ whole d is =
     )
 
 no_fault : (d : Disk) (fault : ImageFault) → IsDisk d → IsNoImage fault d.size d.bytes → ⊥
-no_fault d ImageLength is none = none.1 (whole d is).0
+no_fault d ImageLength is none = none.1 (complete d is).0
 no_fault d BadGeometry is none = elim none [
   | inl size ↦ size is.geometry.size_fits
-  | inr geometry ↦ geometry.1 (subst (λ (n : ℕ). IsGeometry d.size n) (sym (whole d is).1) is.geometry)
+  | inr geometry ↦ geometry.1 (subst (λ (n : ℕ). IsGeometry d.size n) (sym (complete d is).1) is.geometry)
 ]
 
 module _ (size count : ℕ) (bytes : List ℕ) (fits : IsGeometry size count) (are : bytes ≡ replicate (size * count) 0xff) where

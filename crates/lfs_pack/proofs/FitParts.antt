@@ -26,7 +26,7 @@ use Rattle.lfs_command.specs.Command.{Command, Grow, Mkdir, Mv, Put, Rm, RmAttr,
 use Rattle.lfs_command.specs.Cut.{cut, cut_directory, is_first, room}
 use Rattle.lfs_command.specs.DirectoryEdit.{each_part}
 use Rattle.lfs_command.specs.Edited.{edited, make_directory, put_file, set_attributes}
-use Rattle.lfs_command.specs.Home.{home_of}
+use Rattle.lfs_command.specs.Parent.{parent_of}
 use Rattle.lfs_command.specs.Kept.{IsKept}
 use Rattle.lfs_command.specs.Supplies.{Supplies, new_body}
 use Rattle.lfs_command.specs.ThreadEdit.{touch_first}
@@ -92,11 +92,11 @@ set_kept chosen v f None sound after p there is unset =
 attributes_kept : (chosen : Part → List Pair) (v : Volume) (c : Command) (s : Supplies) → IsOfRow c → IsSound v
     → IsSound (cut chosen (edited v c s)) → (p : Part) → Contains (thread (cut chosen (edited v c s)).directories) p → p.pair ≡ root
     → p.dirty ≡ false → (edited v c s).attributes ≡ v.attributes
-attributes_kept chosen v (Mkdir path) s row sound after p there is unset = make_attributes v s.pair (home_of v path)
+attributes_kept chosen v (Mkdir path) s row sound after p there is unset = make_attributes v s.pair (parent_of v path)
 attributes_kept chosen v (Put path bytes) s row sound after p there is unset =
-    put_attributes v (new_body v s bytes) (home_of v path) (entry_at v path)
+    put_attributes v (new_body v s bytes) (parent_of v path) (entry_at v path)
 attributes_kept chosen v (SetAttr path k value) s row sound after p there is unset =
-    set_kept chosen v (set_attribute k value) (home_of v path) sound after p there is unset
+    set_kept chosen v (set_attribute k value) (parent_of v path) sound after p there is unset
 attributes_kept chosen v (Rm path) s row sound after p there is unset = absurd row
 attributes_kept chosen v (Mv from to) s row sound after p there is unset = absurd row
 attributes_kept chosen v (RmAttr path k) s row sound after p there is unset = absurd row

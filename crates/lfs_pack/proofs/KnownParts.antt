@@ -17,7 +17,7 @@ use Rattle.lfs_command.specs.Cut.{cut, more_parts, new_pairs, runs}
 use Rattle.lfs_command.specs.DirectoryEdit.{behind, change_in, each_part, has_greater, has_name, link_in, link_parts, touch, touch_last, touch_last_of}
 use Rattle.lfs_command.specs.Edited.{edited, empty_directory, make_directory, new_entry, put_file, set_attributes, with_body, with_entry_attributes}
 use Rattle.lfs_command.specs.EntryEdit.{changed, place}
-use Rattle.lfs_command.specs.Home.{home_of}
+use Rattle.lfs_command.specs.Parent.{parent_of}
 use Rattle.lfs_command.specs.Supplies.{Supplies, new_body}
 use Rattle.lfs_command.specs.ThreadEdit.{add_after, change, in_directory, link, touch_first}
 use Rattle.lfs_law.proofs.Cuts.{All-left, All-right, cut_part, cut_thread, head_by, tail_by}
@@ -162,11 +162,11 @@ OfNewPair Q _ s = Unit {0}
 
 edited_known : (Q : Pair → ℕ → Type 0) (v : Volume) (c : Command) (s : Supplies) → IsOfRow c → OfNewPair Q c s
     → All (Known Q) (thread v.directories) → All (Known Q) (thread (edited v c s).directories)
-edited_known Q v (Mkdir p) s row new all = make_known Q v s.pair (home_of v p) new all
-edited_known Q v (Put p bytes) s row new all = put_known Q v (new_body v s bytes) (home_of v p) (entry_at v p) all
+edited_known Q v (Mkdir p) s row new all = make_known Q v s.pair (parent_of v p) new all
+edited_known Q v (Put p bytes) s row new all = put_known Q v (new_body v s bytes) (parent_of v p) (entry_at v p) all
 edited_known Q v (Rm p) s row new all = absurd row
 edited_known Q v (Mv p q) s row new all = absurd row
-edited_known Q v (SetAttr p k value) s row new all = set_known Q v (set_attribute k value) (home_of v p) all
+edited_known Q v (SetAttr p k value) s row new all = set_known Q v (set_attribute k value) (parent_of v p) all
 edited_known Q v (RmAttr p k) s row new all = absurd row
 edited_known Q v (Grow n) s row new all = absurd row
 

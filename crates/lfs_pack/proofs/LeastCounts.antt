@@ -31,13 +31,13 @@ use Rattle.lfs_pack.proofs.NoneFreed.{all_on}
 
 -- the blocks that an image's length has room for, and no more than so many
 most_fits : (size q r n : ℕ) → IsBlockSize size → q * size + r ≡ 67108864 → 1024 ≤ q → n ≡ min q 65536 → IsGeometry size n
-most_fits size q r n fits whole many is =
+most_fits size q r n fits complete many is =
     let less : n ≤ q = omega (arith, is) in
     let product : n * size ≤ q * size = mul-le-mul_right size less in
     record {
       size_fits = fits;
       count_fits = (omega (arith, is, many), omega (arith, is));
-      length_fits = omega (arith, whole, product);
+      length_fits = omega (arith, complete, product);
     }
 
 pub most_is_geometry : (size : ℕ) → IsBlockSize size → IsGeometry size (most_count size)

@@ -27,7 +27,7 @@ use Rattle.lfs_law.specs.Laws.{UsesAfter}
 use Rattle.lfs_law.specs.Lengthened.{with_count}
 use Rattle.lfs_law.proofs.CarriedFollow.{CarriedFollow}
 use Rattle.lfs_law.proofs.FrugalPlans.{enough_free}
-use Rattle.lfs_law.proofs.Homes.{first_passes, test_passes}
+use Rattle.lfs_law.proofs.Parents.{first_passes, test_passes}
 use Rattle.lfs_law.proofs.PartsFit.{checks_pass}
 use Rattle.lfs_law.proofs.WrittenLemmas.{times_there}
 use Rattle.lfs_edit.proofs.Verdicts.{front_passes, passed_first}

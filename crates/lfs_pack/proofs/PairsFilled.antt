@@ -11,8 +11,8 @@ use Rattle.lfs_meta.specs.Attribute.{Attributes}
 use Rattle.lfs_meta.specs.Entry.{StoredEntry}
 use Rattle.lfs_meta.specs.Weighing.{weights}
 use Rattle.lfs_meta.specs.LiveBlock.{stored_part_of}
-use Rattle.lfs_commit.specs.Spelling.{part_tags}
-use Rattle.lfs_commit.specs.Writing.{IsFirstBlock, log_written, part_in, stored_part}
+use Rattle.lfs_pair.specs.Spelling.{part_tags}
+use Rattle.lfs_pair.specs.Writing.{IsFirstBlock, log_written, part_in, stored_part}
 use Rattle.lfs_command.specs.PartWritten.{FirstIsFilled}
 use Rattle.lfs_fs.specs.Thread.{Link}
 use Rattle.lfs_fs.specs.Uses.{times, pair_uses}
@@ -29,9 +29,9 @@ firsts_both : (ls ms : List Link) → first_blocks (ls ++ ms) ≡ first_blocks l
 firsts_both ls ms = map-append (λ (l : Link). l.part.pair.0) ls ms
 
 -- of one image after another
-pub but_whole : (d m e : Disk) (all front behind : List Link) → all ≡ front ++ behind → IsDiskBut (first_blocks front) d m
+pub but_complete : (d m e : Disk) (all front behind : List Link) → all ≡ front ++ behind → IsDiskBut (first_blocks front) d m
     → IsDiskBut (first_blocks behind) m e → IsDiskBut (first_blocks all) d e
-but_whole d m e all front behind is first later =
+but_complete d m e all front behind is first later =
     let parted : first_blocks all ≡ first_blocks front ++ first_blocks behind = ap first_blocks is ∙ firsts_both front behind in
     record {
       disk = record {
@@ -50,7 +50,7 @@ but_itself d blocks disk = record { disk = record { disk = disk; size = refl; co
 
 pub but_begun : (d e : Disk) (all front behind : List Link) → all ≡ front ++ behind → IsDiskBut (first_blocks front) d e
     → IsDiskBut (first_blocks all) d e
-but_begun d e all front behind is first = but_whole d e e all front behind is first (but_itself e (first_blocks behind) first.disk.disk)
+but_begun d e all front behind is first = but_complete d e e all front behind is first (but_itself e (first_blocks behind) first.disk.disk)
 
 -- ---- blocks that pairs have in common
 
@@ -108,7 +108,7 @@ module _ (bytes : List ℕ) (attributes : Attributes) where
       apart = can.may.apart;
       first = subst (λ (n : ℕ). l.part.pair.0 < n) (sym same.count) can.may.first;
       second = subst (λ (n : ℕ). l.part.pair.1 < n) (sym same.count) can.may.second;
-      whole = can.may.whole;
+      complete = can.may.complete;
       few = can.may.few;
       room = subst (λ (n : ℕ). weights (stored_entries bytes attributes l.part) + 40 ≤ n) (sym same.size) can.may.room;
       tail = can.may.tail;
@@ -148,7 +148,7 @@ module _ (bytes : List ℕ) (attributes : Attributes) where
       → FillPairs m e bytes attributes ms
       → FillPairs d e bytes attributes (ls ++ ms)
   both_filled d m e ls ms can first later = record {
-    but = but_whole d m e (ls ++ ms) ls ms refl first.but later.but;
+    but = but_complete d m e (ls ++ ms) ls ms refl first.but later.but;
     each = λ l there. elim (Contains-append_cases ls ms l there) [
       | inl before ↦
           (let stays = λ (n : ℕ) (used : 1 ≤ name_of n l). later.but.others n (no_later_first n ls ms l (can.once n) before used) in
@@ -158,10 +158,10 @@ module _ (bytes : List ℕ) (attributes : Attributes) where
     ];
   }
 
-  pub filled_whole : (d m e : Disk) (all front behind : List Link) → all ≡ front ++ behind → CanFillPairs d bytes attributes all
+  pub filled_complete : (d m e : Disk) (all front behind : List Link) → all ≡ front ++ behind → CanFillPairs d bytes attributes all
       → FillPairs d m bytes attributes front
       → FillPairs m e bytes attributes behind → FillPairs d e bytes attributes all
-  filled_whole d m e all front behind is can first later =
+  filled_complete d m e all front behind is can first later =
       subst (FillPairs d e bytes attributes) (sym is)
       (both_filled d m e front behind (subst (CanFillPairs d bytes attributes) is can) first later)
 

@@ -59,7 +59,7 @@ pub rows_are_packable : OutlinesAreSound → RowsArePackable
 rows_are_packable outlines d m is =
     let sound : IsSound m.outline = subst IsSound (sym is.outline) (outlines is.volume is.sound) in
     record {
-      root = begins d m.outline m.rows is.rows.rise (is.rows.whole [] (top m.outline) refl);
+      root = begins d m.outline m.rows is.rows.rise (is.rows.complete [] (top m.outline) refl);
       rise = packed_rise d m.rows is.rows.rise;
       names = All-map (λ (x : Packed). All IsName x.path) (packed_of d) m.rows
           (All-weaker (λ (r : Row). entry_at m.outline r.path ≡ Some r.entry) (λ (r : Row). All IsName r.path)

@@ -8,7 +8,7 @@ use Rattle.lfs_meta.specs.Attribute.{Attributes}
 use Rattle.lfs_meta.specs.Fits.{TailFits}
 use Rattle.lfs_meta.specs.Laws.{NamesAreDecided}
 use Rattle.lfs_meta.specs.Name.{IsName}
-use Rattle.lfs_meta.specs.Whole.{IsWhole}
+use Rattle.lfs_meta.specs.Complete.{IsComplete}
 use Rattle.lfs_meta.specs.Weighing.{weights, weight as stored_weight}
 use Rattle.lfs_fs.specs.AsStored.{stored_entry}
 use Rattle.lfs_fs.specs.Directory.{Part, entries, thread}
@@ -55,21 +55,21 @@ stored_weighs bytes o p len = by (is_first p)
 abbrev AreNamed : List Entry → Type 0
 AreNamed es = All (λ e. IsName e.name) es
 
-each_whole : NamesAreDecided → (es : List Entry) → AreNamed es → AllByRecursion IsWhole (map stored_entry es)
-each_whole decided [] names = tt
-each_whole decided (e ∷ es) names = (
+each_complete : NamesAreDecided → (es : List Entry) → AreNamed es → AllByRecursion IsComplete (map stored_entry es)
+each_complete decided [] names = tt
+each_complete decided (e ∷ es) names = (
   record { body = body_taken e.body; name = name_taken decided e.body e.name (All-head (λ x. IsName x.name) e es names) },
-  each_whole decided es (All-tail (λ x. IsName x.name) e es names),
+  each_complete decided es (All-tail (λ x. IsName x.name) e es names),
 )
 
-stored_whole : NamesAreDecided → (bytes : List ℕ) (attributes : Attributes) (p : Part) → AreNamed p.entries
-    → AllByRecursion IsWhole (stored_entries bytes attributes p)
-stored_whole decided bytes attributes p names = by (is_first p)
+stored_complete : NamesAreDecided → (bytes : List ℕ) (attributes : Attributes) (p : Part) → AreNamed p.entries
+    → AllByRecursion IsComplete (stored_entries bytes attributes p)
+stored_complete decided bytes attributes p names = by (is_first p)
   where
-    by : (t : Bool) → AllByRecursion IsWhole (if t then superblock_entry bytes attributes
+    by : (t : Bool) → AllByRecursion IsComplete (if t then superblock_entry bytes attributes
         ∷ map stored_entry p.entries else map stored_entry p.entries)
-    by true = (record { body = refl; name = refl }, each_whole decided p.entries names)
-    by false = each_whole decided p.entries names
+    by true = (record { body = refl; name = refl }, each_complete decided p.entries names)
+    by false = each_complete decided p.entries names
 
 -- ---- names, by parts
 
@@ -115,7 +115,7 @@ sound_outlines_can_be_taken decided d o disk sound size count fit = record {
             apart = pair_apart d.count o sound count l.part part;
             first = below.0;
             second = below.1;
-            whole = stored_whole decided (volume_bytes o) o.attributes l.part
+            complete = stored_complete decided (volume_bytes o) o.attributes l.part
                 (All-contains (λ (p : Part). AreNamed p.entries) (thread o.directories) l.part (sound_named o sound) part);
             few = few;
             room = light;

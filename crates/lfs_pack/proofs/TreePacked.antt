@@ -99,7 +99,7 @@ module _ (shows : RowsShowTheTree) (d : Disk) (m : MountedValue) (is : IsMountOf
   at_none (Some n) at none =
       let e = outlined_there is.volume p (entry_at is.volume p) n refl at in
       let there : entry_at m.outline p ≡ Some e.0 = ap (λ (v : Volume). entry_at v p) is.outline ∙ outlined_at is.volume p ∙ e.1 in
-      absurd (no_row d m.rows p (record { path = p; entry = e.0 }) none (is.rows.whole p e.0 there) refl)
+      absurd (no_row d m.rows p (record { path = p; entry = e.0 }) none (is.rows.complete p e.0 there) refl)
 
   by_found : (o : Option Node) → packed_at (all_packed d m.rows) p ≡ o → packed_at (all_packed d m.rows) p ≡ tree is.volume p
   by_found None none = at_none (tree is.volume p) refl none

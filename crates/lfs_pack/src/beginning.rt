@@ -54,8 +54,7 @@ fn root_outline(alloc: Global, size: u32, count: u32, limits: Limits) -> Result<
     })
 }
 
-/// A new image of `count` blocks of `size` bytes at work, with these limits, of the root alone. The caller owes a good geometry, and limits that
-/// an image may have.
+/// A new image of `count` blocks of `size` bytes at work, with these limits, of the root alone.
 pub(crate) fn new_image(
     alloc: Global,
     size: u32,

@@ -9,7 +9,7 @@ ghost use Rattle.lfs_law.specs.WrittenLinks.{CanBeMade};
 
 use lfs_block::{Blocks, Image, Patch, Record, kept_counts_change_their_blocks};
 
-/// Makes changes of an image, where there are some. The caller owes that they rise by number, and can be made. Takes no memory.
+/// Makes changes of an image, where there are some.
 pub(crate) fn make_changes(image: &mut Image, changes: Vec<Record>)
     requires rising { IsRising changes.items }
     requires can { AllByRecursion (CanBeMade image.old.disk) changes.items }

@@ -11,10 +11,7 @@ use lfs_block::{Blocks, Image, changes_change_their_blocks};
 use lfs_write::laid;
 use std::alloc::{AllocError, Global};
 
-/// Lays the contents of a file in new blocks of an image. The caller owes blocks of the image that rise strictly, as many as the bytes
-/// take, and fewer than 2^32. Where memory is refused the image is as it was.
-///
-/// Source: own.
+/// Lays the contents of a file in new blocks of an image. Where memory is refused the image is as it was.
 pub fn lay_contents(
     alloc: Global,
     image: &mut Image,

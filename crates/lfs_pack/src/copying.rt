@@ -18,8 +18,8 @@ use crate::source_row::SourceRow;
 use lfs_block::Blocks;
 use lfs_file::send_blocks;
 use lfs_fs::{Mounted, Row, RowBody, Rows, follow, rows_show_the_tree};
+use lfs_host::MemorySink;
 use lfs_meta::Attribute;
-use lfs_sink::MemorySink;
 use std::alloc::{AllocError, Global};
 
 /// Turns the path of a row into that of the next one.
@@ -46,7 +46,7 @@ fn text_of(alloc: Global, path: &[&[u8]]) -> Result<Vec<u8>, AllocError>
     Ok(text)
 }
 
-/// The contents of a file of `size` bytes in these blocks. The caller owes that the blocks are on the disk, and no more than it has.
+/// The contents of a file of `size` bytes in these blocks.
 fn chain_bytes<B: Blocks>(
     alloc: Global,
     disk: &B,
@@ -64,7 +64,7 @@ fn chain_bytes<B: Blocks>(
     Ok(text.bytes)
 }
 
-/// A file's bytes; a directory has none. The caller owes that the body's blocks are on the disk, and no more than it has.
+/// A file's bytes; a directory has none.
 fn bytes_of<B: Blocks>(
     alloc: Global,
     disk: &B,
@@ -92,7 +92,7 @@ fn attributes_of(alloc: Global, attributes: &[Attribute]) -> Result<Vec<(u8, Vec
     Ok(copied)
 }
 
-/// A copy of a row with this path. The caller owes that the row's blocks are on the disk, and no more than it has.
+/// A copy of a row with this path.
 fn source_row<B: Blocks>(
     alloc: Global,
     disk: &B,
@@ -110,7 +110,7 @@ fn source_row<B: Blocks>(
     })
 }
 
-/// Copies of rows, in their order. The caller owes that their blocks are on the disk, and no more than it has.
+/// Copies of rows, in their order.
 fn copied_rows<B: Blocks>(
     alloc: Global,
     disk: &B,
@@ -128,10 +128,8 @@ fn copied_rows<B: Blocks>(
     Ok(copied)
 }
 
-/// Copies of the rows of a mounted image, in their order: of a file its contents, and of each row its attributes. The caller owes that
-/// `mounted` is the mount of the disk. Takes memory for all that the image holds.
-///
-/// Source: own.
+/// Copies of the rows of a mounted image, in their order: of a file its contents, and of each row its attributes. Takes memory for all
+/// that the image holds.
 pub fn source_rows<B: Blocks>(
     alloc: Global,
     disk: &B,

@@ -9,9 +9,7 @@ use crate::putting::put_block;
 use lfs_block::{Blocks, Image, put_blocks_stand};
 use std::alloc::{AllocError, Global};
 
-/// Erases blocks of an image. The caller owes blocks of the image.
-///
-/// Source: own.
+/// Erases blocks of an image.
 pub fn erase(alloc: Global, image: &mut Image, blocks: &[u32]) -> Result<(), AllocError>
     requires { All (λ b. b < image.old.disk.count) blocks.now }
     ensures erased { OnOk result ((b : ℕ) → 0 < times b blocks.now → block_of image.new.disk b ≡ replicate image.new.disk.size 0xff) }

@@ -9,14 +9,13 @@ ghost use Rattle.lfs_pack.specs.Filled.{CanFillPair, FillPairs, first_blocks};
 
 use crate::putting::put_block;
 use lfs_block::{Blocks, Image, put_blocks_stand};
-use lfs_commit::first_block;
 use lfs_fs::{Outline, OutlinePart};
 use lfs_meta::Tail;
+use lfs_pair::first_block;
 use lfs_write::stored_entries;
 use std::alloc::{AllocError, Global};
 
-/// Fills the pair of a part with it and the tail behind it: the pair's first block is written, and no other one. The caller owes
-/// attributes of the root that rise strictly by kind, and what `CanFillPair` says.
+/// Fills the pair of a part with it and the tail behind it: the pair's first block is written, and no other one.
 pub(crate) fn fill_pair(
     alloc: Global,
     image: &mut Image,

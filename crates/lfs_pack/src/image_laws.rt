@@ -10,19 +10,14 @@ use lfs_law::{cuts_follow, free_after};
 use lfs_meta::names_are_decided;
 
 /// A law: a sound outline of an image's size and count can be written into the image, where each part fits one block, has no share of
-/// the global state, and the second block of its pair is erased. Takes no memory.
-///
-/// Source: own.
+/// the global state, and the second block of its pair is erased.
 pub fn sound_outlines_can_be_taken()
     ensures { SoundOutlinesCanBeTaken }
 {
     names_are_decided();
 }
 
-/// A law: an image with the chains of a sound volume, into which the volume's outline is then written, holds the volume. Takes no
-/// memory.
-///
-/// Source: own.
+/// A law: an image with the chains of a sound volume, into which the volume's outline is then written, holds the volume.
 pub fn new_images_hold()
     ensures { NewImagesHold }
 {
@@ -31,10 +26,7 @@ pub fn new_images_hold()
 }
 
 /// A law: an erased image is one of the root alone, whose parts aren't written yet (`begin`); a command of a row, whose contents are laid and
-/// whose old ones are erased, leads to another such image (`go_on`); and where the outline is written, it is the volume's image (`finish`). Takes
-/// no memory.
-///
-/// Source: own.
+/// whose old ones are erased, leads to another such image (`go_on`); and where the outline is written, it is the volume's image (`finish`).
 pub fn unwritten_images_go_on()
     ensures begin { ErasedAreUnwritten }
     ensures go_on { CommandsGoOn }

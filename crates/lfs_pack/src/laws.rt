@@ -6,9 +6,7 @@ use lfs_fs::paths_are_ordered;
 use lfs_law::{cuts_follow, free_after};
 
 /// A law: the commands of rows, each accepted, lead from the volume of a new image to one whose tree is the map of the rows: at each
-/// path it has what the row of that path says, and nothing elsewhere. Takes no memory.
-///
-/// Source: own.
+/// path it has what the row of that path says, and nothing elsewhere.
 pub fn rows_are_led_to_their_map()
     ensures { LedToTheirMap }
 {
@@ -17,9 +15,7 @@ pub fn rows_are_led_to_their_map()
 }
 
 /// A law: rows are packed into as many blocks as their least count says, and into more, where no memory is refused; into fewer they
-/// aren't packed. Takes no memory.
-///
-/// Source: own.
+/// aren't packed.
 pub fn least_counts_are_least()
     ensures { LeastCountsAreLeast }
 {

@@ -14,8 +14,7 @@ use lfs_block::{Blocks, Image};
 use lfs_command::{Command, Named, data_blocks, most_inline};
 use std::alloc::{AllocError, Global};
 
-/// Lays what a command puts, where it doesn't stand in its entry, in the first of these blocks. The caller owes blocks of the image that rise
-/// strictly, as many as the command takes for contents, and fewer than 2^32 bytes.
+/// Lays what a command puts, where it doesn't stand in its entry, in the first of these blocks.
 pub(crate) fn lay_for(
     alloc: Global,
     image: &mut Image,

@@ -10,17 +10,15 @@ ghost use Rattle.lfs_pack.specs.Packing.{RefusesPack};
 use crate::pack_row::PackRow;
 use crate::packing::packed_image;
 use crate::packing_laws::packing_laws;
-use lfs_block::{Blocks, MAX_IMAGE_LENGTH};
+use lfs_block::{Blocks, MAX_BLOCK_COUNT, MAX_IMAGE_LENGTH};
 use lfs_command::Refusal;
 use lfs_fs::Limits;
 use std::alloc::Global;
 
 /// The most blocks of an image, where they are small.
-const MOST_BLOCKS: u64 = 65_536;
+const MOST_BLOCKS: u64 = MAX_BLOCK_COUNT as u64;
 
-/// How many blocks an image of blocks of `size` bytes has at most. The caller owes a block size that images have. Takes no memory.
-///
-/// Source: own.
+/// How many blocks an image of blocks of `size` bytes has at most.
 pub fn most_count(size: u32) -> u32
     requires { IsBlockSize size }
     ensures value { result ≡ most_count size }
@@ -30,12 +28,9 @@ pub fn most_count(size: u32) -> u32
     most.min(MOST_BLOCKS) as u32
 }
 
-/// The least number of blocks of `size` bytes of an image with these limits that holds the rows. It is how many blocks what the rows say
-/// uses in an image of as many blocks as one may have: the first ones, in an order that doesn't depend on how many there are. The caller owes
-/// a block size that images have, and else what `pack_within` asks. A refusal is one of an image of as many blocks as one may have. Takes
-/// memory for such an image.
-///
-/// Source: own.
+/// The least number of blocks of `size` bytes of an image with these limits that holds the rows. It is how many blocks what the rows say uses
+/// in an image of as many blocks as one may have: the first ones, in an order that doesn't depend on how many there are. A refusal is one of
+/// an image of as many blocks as one may have. Takes memory for such an image.
 pub fn least_count(
     alloc: Global,
     size: u32,

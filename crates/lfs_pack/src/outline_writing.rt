@@ -13,10 +13,8 @@ use std::alloc::{AllocError, Global};
 
 /// Writes each part of an outline into the first block of its pair, whatever its mark, beside the second one, which stays erased: a part
 /// goes on with a hard tail to the next one of its directory, the last of a directory with a soft one to the next directory, and the last
-/// of all with none. The superblock stands in front in the root's first part. Takes time that is linear in what is written. The caller
-/// owes what `CanTakeOutline` says. Where memory is refused, only first blocks of these pairs are other ones.
-///
-/// Source: own.
+/// of all with none. The superblock stands in front in the root's first part. Takes time that is linear in what is written. Where memory
+/// is refused, only first blocks of these pairs are other ones.
 pub fn write_outline(alloc: Global, image: &mut Image, outline: &Outline) -> Result<(), AllocError>
     requires { CanTakeOutline image.old.disk outline.now }
     ensures taken { OnOk result (TakesOutline image.old.disk image.new.disk outline.now) }

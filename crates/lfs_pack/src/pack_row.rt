@@ -1,8 +1,6 @@
 //! What is packed at a path.
 
 /// What is packed at a path: a directory or a file, with its attributes.
-///
-/// Source: own.
 #[derive(Clone, Copy)]
 pub struct PackRow<'a> {
     /// The text of the path.

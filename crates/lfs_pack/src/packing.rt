@@ -62,8 +62,6 @@ fn finished(alloc: Global, new: NewImage) -> Result<Image, AllocError>
 
 /// A new image of `count` blocks of `size` bytes with what the rows have at their paths, with the usual limits: names may have 255 bytes,
 /// files 2,147,483,647 and attributes 1,022. Else it is as `pack_within` says.
-///
-/// Source: own.
 pub fn pack(alloc: Global, size: u32, count: u32, rows: &[PackRow<'_>]) -> Result<Vec<u8>, Refusal>
     requires { IsGeometry size count }
     ensures packed { IfOk result (λ bytes. (packed : List Packed) → AreRowsOf rows.now packed → IsPacked size count new_limits packed bytes.items) }
@@ -73,17 +71,12 @@ pub fn pack(alloc: Global, size: u32, count: u32, rows: &[PackRow<'_>]) -> Resul
     pack_within(alloc, size, count, NEW_LIMITS, rows, &mut at)
 }
 
-/// A new image of `count` blocks of `size` bytes with what the rows have at their paths: one with these limits that mounts to exactly the
-/// map of the rows. Contents go straight into the image, and each part of a directory is written once, into the first block of its pair.
-/// Takes time that is near-linear in bytes and rows. The caller owes a good geometry, and limits that an image may have: names and attributes
-/// of 1 to 1,022 bytes, and files of 1 to 2,147,483,647; and of the rows, for which this is said, that the root's is the first and has no
-/// bytes, that the texts spell paths, each of which comes before all later ones in the order of a mounted image's rows, and that the kinds of
-/// each row's attributes rise strictly. A refusal is what the next of these commands is refused with, with its numbers, once those before it
-/// are carried out: for each row but the root's, to make the directory or to put the file; then to set its attributes, one after another.
-/// `Memory` says only that a growth was refused. How many rows are added is put into `at`: for any other refusal that is the index of the
-/// row that is refused.
-///
-/// Source: own.
+/// A new image of `count` blocks of `size` bytes with what the rows have at their paths: one with these limits that mounts to exactly the map
+/// of the rows. Contents go straight into the image, and each part of a directory is written once, into the first block of its pair. Takes
+/// time that is near-linear in bytes and rows. A refusal is what the next of these commands is refused with, with its numbers, once those
+/// before it are carried out: for each row but the root's, to make the directory or to put the file; then to set its attributes, one after
+/// another. `Memory` says only that a growth was refused. How many rows are added is put into `at`: for any other refusal that is the index
+/// of the row that is refused.
 pub fn pack_within(
     alloc: Global,
     size: u32,

@@ -6,7 +6,7 @@ use crate::laws::rows_are_led_to_their_map;
 use lfs_fs::{paths_are_ordered, texts_spell_one_path};
 use lfs_law::{cuts_follow, free_after};
 
-/// The laws that packing stands on. Takes no memory.
+/// The laws that packing stands on.
 pub(crate) fn packing_laws()
     ensures { PackingLaws }
 {

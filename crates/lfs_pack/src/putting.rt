@@ -8,10 +8,7 @@ use crate::changing::make_changes;
 use lfs_block::{Blocks, Image, Record};
 use std::alloc::{AllocError, Global};
 
-/// Puts another block into an image. The caller owes that there is such a block, and as many bytes as it has. Where memory is refused
-/// the image is as it was.
-///
-/// Source: own.
+/// Puts another block into an image. Where memory is refused the image is as it was.
 pub fn put_block(
     alloc: Global,
     image: &mut Image,

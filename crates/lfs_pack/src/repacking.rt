@@ -8,8 +8,6 @@ use crate::source_row::SourceRow;
 use std::alloc::{AllocError, Global};
 
 /// Copied rows as they are packed, in their order. Takes memory.
-///
-/// Source: own.
 pub fn pack_rows(alloc: Global, copied: &[SourceRow]) -> Result<Vec<PackRow<'_>>, AllocError>
     ensures { IfOk result (λ rows. map pack_text rows.items ≡ map source_text copied.now) }
 {

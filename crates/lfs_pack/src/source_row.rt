@@ -3,8 +3,6 @@
 use crate::pack_row::PackRow;
 
 /// A row of an image's tree, copied: the text of its path, a file's contents, and its attributes.
-///
-/// Source: own.
 #[derive(Drop)]
 pub struct SourceRow {
     /// The text of the path.
@@ -19,7 +17,7 @@ impl SourceRow {
     ghost use Rattle.std.specs.Prelude.{◌≡◌};
     ghost use Rattle.lfs_pack.specs.RowText.{pack_text, source_text};
 
-    /// The row as it is packed. Takes no memory.
+    /// The row as it is packed.
     pub(crate) fn pack_row(&self) -> PackRow<'_>
         ensures { pack_text result ≡ source_text self.now }
     {

@@ -5,8 +5,8 @@ use crate::images::pair_of;
 use crate::samples::block_of;
 use crate::writing::small_part;
 use lfs_block::{Blocks, Image};
-use lfs_commit::{Edit, EditData, Forced, Tag, append, change_pair};
 use lfs_meta::Tail;
+use lfs_pair::{Edit, EditData, Forced, Tag, append, change_pair};
 use lfs_tag::commit_fits;
 use std::alloc::Global;
 

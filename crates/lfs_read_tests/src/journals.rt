@@ -1,7 +1,7 @@
 //! Journals by example.
 
 use crate::images::add_fills;
-use lfs_book::{Journal, JournalFault, write_journal};
+use lfs_journal::{Journal, JournalFault, write_journal};
 use std::alloc::{AllocError, Global};
 
 /// The journal of an image of 8 blocks of 512 bytes that nothing was done to.

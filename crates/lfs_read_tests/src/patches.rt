@@ -35,7 +35,7 @@ pub(crate) fn record(
     new: u8,
 ) -> Result<Record, AllocError>
     ensures number { IfOk result (λ r. r.number ≡ number) }
-    ensures whole { IfOk result (λ r. IsBlockChange size r) }
+    ensures complete { IfOk result (λ r. IsBlockChange size r) }
     ensures old { IfOk result (λ r. r.old ≡ replicate size old) }
 {
     let old = filled(alloc, size, old)?;

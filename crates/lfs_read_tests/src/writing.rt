@@ -3,13 +3,13 @@
 ghost use Rattle.std.specs.Prelude.{◌≡◌, ◌<◌, ◌≤◌, length, IfSome};
 ghost use Rattle.std.specs.List.{AllByRecursion};
 ghost use Rattle.lfs_meta.specs.Weighing.{weights};
-ghost use Rattle.lfs_meta.specs.Whole.{IsWhole};
+ghost use Rattle.lfs_meta.specs.Complete.{IsComplete};
 
 use crate::images::{Head, image_of, pair_of};
 use crate::samples::block_of;
 use lfs_block::{Blocks, Image};
-use lfs_commit::{first_block, rewrite};
 use lfs_meta::{Entry, Part, Tail, read_pair, weight};
+use lfs_pair::{first_block, rewrite};
 use std::alloc::Global;
 
 // Revision 0xffffffff: a file `a` with a skip list and two attributes, a directory, a file `z` with contents.
@@ -51,7 +51,7 @@ pub(crate) fn weights(entries: &[Entry]) -> u32
 /// The part of an image's pair, where its entries fit into a block of 256 bytes.
 pub(crate) fn small_part(alloc: Global, image: &Image) -> Option<Part>
     requires { 1 < image.now.disk.count }
-    ensures whole { IfSome result (λ part. AllByRecursion IsWhole part.1.entries) }
+    ensures complete { IfSome result (λ part. AllByRecursion IsComplete part.1.entries) }
     ensures few { IfSome result (λ part. length part.1.entries ≤ 1000) }
     ensures room { IfSome result (λ part. weights part.1.entries ≤ 216) }
 {

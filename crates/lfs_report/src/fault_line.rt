@@ -1,9 +1,9 @@
 //! What is told of the place of a fault for which an image doesn't mount.
 
-use crate::beside::Beside;
+use crate::context::Context;
 use crate::stated::Statement;
 use lfs_block::{Image, MountFault};
-use lfs_place::fault_place;
+use lfs_survey::fault_place;
 use std::alloc::Global;
 
 /// What is told behind a fault for which an image doesn't mount: its first place, whose line is put into `beside`, or what is told as
@@ -14,19 +14,19 @@ pub(crate) fn statement_at(
     image: &Image,
     fault: MountFault,
     usual: Option<Statement>,
-    beside: &mut Beside,
+    context: &mut Context,
 ) -> Option<Statement> {
-    let Some(place) = fault_place(alloc, image, fault, beside.by_device) else {
+    let Some(place) = fault_place(alloc, image, fault, context.by_device) else {
         return usual;
     };
     match usual {
         Some(Statement::Stated(..) | Statement::Unread(_)) if place.is_front => usual,
         Some(Statement::Expanded) => {
-            beside.place = Some(place.text);
+            context.place = Some(place.text);
             usual
         }
         _ => {
-            beside.place = Some(place.text);
+            context.place = Some(place.text);
             Some(Statement::Place)
         }
     }

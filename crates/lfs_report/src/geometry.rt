@@ -3,19 +3,20 @@
 ghost use Rattle.std.specs.Prelude.{◌≡◌};
 
 use crate::line::{Piece, say};
-use lfs_block::{BLOCK_SIZE_STEP, MAX_IMAGE_LENGTH};
+use lfs_block::{BLOCK_SIZE_STEP, MAX_BLOCK_COUNT, MAX_IMAGE_LENGTH};
 use lfs_host::Host;
+use lfs_json::Told;
 
 /// The least number of blocks of an image.
 const MIN_BLOCK_COUNT: usize = 2;
 
 /// The greatest number of blocks of an image.
-const MAX_BLOCK_COUNT: usize = 65_536;
+const MOST_BLOCKS: usize = MAX_BLOCK_COUNT as usize;
 
 /// What is told of the two limits.
 const COUNT_LIMITS: &str = "an image has 2 to 65536 blocks, this one ";
 
-/// Tells which limit of its geometry the image of this name doesn't keep, the size of whose blocks this option says. Takes no memory.
+/// Tells which limit of its geometry the image of this name doesn't keep, the size of whose blocks this option says.
 pub(crate) fn tell_limit<H: Host>(
     host: &mut H,
     image: &str,
@@ -36,16 +37,17 @@ pub(crate) fn tell_limit<H: Host>(
 fn tell_size<H: Host>(host: &mut H, option: &str, size: u32)
     ensures kept { H.known host.new ≡ H.known host.old }
 {
-    host.complain(format_args!(
-        "lfsed: {option} {size}: a block is a multiple of {BLOCK_SIZE_STEP} bytes\n"
-    ));
+    host.complain(Told {
+        of: format_args!("{option} {size}"),
+        text: format_args!("a block is a multiple of {BLOCK_SIZE_STEP} bytes"),
+    });
 }
 
-/// Tells which limit of the number of its blocks an image doesn't keep. Takes no memory.
+/// Tells which limit of the number of its blocks an image doesn't keep.
 pub(crate) fn tell_count<H: Host>(host: &mut H, image: &str, count: usize, size: u32)
     ensures kept { H.known host.new ≡ H.known host.old }
 {
-    if (MIN_BLOCK_COUNT..=MAX_BLOCK_COUNT).contains(&count) {
+    if (MIN_BLOCK_COUNT..=MOST_BLOCKS).contains(&count) {
         tell_length(host, image, count, size);
     } else {
         tell_wrong_count(host, image, count, size);

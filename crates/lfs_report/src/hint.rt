@@ -6,7 +6,7 @@ use lfs_request::{Query, Request, Task};
 const VERSION: u32 = 0x0002_0001;
 
 /// The words by which an image is read as a device does: an option of the command that is asked for, or of the one that makes a new image
-/// of it; nothing where the request says so already. Takes no memory.
+/// of it; nothing where the request says so already.
 pub(crate) fn hint_of(request: &Request<'_>) -> Option<&'static str> {
     match &request.task {
         Task::Ask { view, .. } | Task::Extract { view, .. } | Task::Salvage { view, .. }
@@ -23,7 +23,7 @@ pub(crate) fn hint_of(request: &Request<'_>) -> Option<&'static str> {
     }
 }
 
-/// The words of a hint, where a disk version is read with them. Takes no memory.
+/// The words of a hint, where a disk version is read with them.
 pub(crate) fn hint_at(version: u32, hint: Option<&'static str>) -> Option<&'static str> {
     if version == VERSION { hint } else { None }
 }

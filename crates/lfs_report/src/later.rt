@@ -8,8 +8,6 @@ use lfs_host::Host;
 use lfs_request::Request;
 
 /// The disk versions of commits that aren't read, where such stand in an image, and in the other one that is read.
-///
-/// Source: own.
 #[derive(Clone, Copy)]
 pub struct Later {
     /// In the image.
@@ -18,9 +16,7 @@ pub struct Later {
     pub other: Option<u32>,
 }
 
-/// Tells on standard error of commits that aren't read, where such stand in the images of a request. Takes no memory.
-///
-/// Source: own.
+/// Tells on standard error of commits that aren't read, where such stand in the images of a request.
 pub fn tell_later<H: Host>(host: &mut H, request: &Request<'_>, later: Later)
     ensures kept { H.known host.new ≡ H.known host.old }
 {

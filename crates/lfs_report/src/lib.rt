@@ -1,7 +1,7 @@
 //! How a request's end is told: its status, the fault with its number, and lines of what more is known of it.
 #![tactic(auto)]
 
-mod beside;
+mod context;
 mod fault_line;
 mod finding;
 mod geometry;
@@ -28,7 +28,7 @@ mod told_line;
 mod versions;
 mod within;
 
-pub use beside::Beside;
+pub use context::Context;
 pub use later::{Later, tell_later};
 pub use need::with_need;
 pub use refused_line::{stop_at, stop_of_line, with_line, with_number};

@@ -4,7 +4,8 @@ ghost use Rattle.std.specs.Prelude.{◌≡◌};
 
 use crate::finding::Finding;
 use lfs_host::Host;
-use lfs_place::Shown;
+use lfs_json::Told;
+use lfs_survey::Shown;
 use lfs_texts::Reason;
 use std::fmt;
 
@@ -38,40 +39,39 @@ impl fmt::Display for Piece<'_> {
     }
 }
 
-/// A line of the program: what it is of, and pieces behind a colon.
+/// Pieces, one behind the other.
 #[derive(Clone, Copy)]
-struct Line<'a, 'b, 'c> {
-    /// The name of what it is of.
-    name: &'a str,
-    /// The pieces.
+struct Pieces<'b, 'c> {
     pieces: &'b [Piece<'c>],
 }
 
-impl fmt::Display for Line<'_, '_, '_> {
+impl fmt::Display for Pieces<'_, '_> {
     fn fmt<W: fmt::Write>(&self, f: &mut fmt::Formatter<W>) -> fmt::Result {
-        write!(f, "lfsed: {}: ", self.name)?;
         for piece in self.pieces {
             piece.fmt(f)?;
         }
-        f.write_str("\n")
+        Ok(())
     }
 }
 
-/// Tells a line on standard error: what it is of, and these pieces. Takes no memory.
+/// Tells a line on standard error: what it is of, and these pieces.
 pub(crate) fn say<H: Host>(host: &mut H, name: &str, pieces: &[Piece<'_>])
     ensures kept { H.known host.new ≡ H.known host.old }
 {
-    host.complain(Line { name, pieces });
+    host.complain(Told {
+        of: name,
+        text: Pieces { pieces },
+    });
 }
 
-/// Tells a line of words alone. Takes no memory.
+/// Tells a line of words alone.
 pub(crate) fn say_words<H: Host>(host: &mut H, name: &str, words: &str)
     ensures kept { H.known host.new ≡ H.known host.old }
 {
     say(host, name, &[Piece::Text(words)]);
 }
 
-/// Tells a line with a disk version, and words in front of it and behind it. Takes no memory.
+/// Tells a line with a disk version, and words in front of it and behind it.
 pub(crate) fn say_version<'a, H: Host>(
     host: &mut H,
     name: &str,
@@ -92,7 +92,7 @@ pub(crate) fn say_version<'a, H: Host>(
     );
 }
 
-/// Tells a line with a number of blocks of a size, and words in front of them and behind them. Takes no memory.
+/// Tells a line with a number of blocks of a size, and words in front of them and behind them.
 pub(crate) fn say_blocks<'a, H: Host>(
     host: &mut H,
     name: &str,

@@ -15,10 +15,8 @@ use std::alloc::Global;
 /// The least number of blocks of an image.
 const MIN_BLOCK_COUNT: u32 = 2;
 
-/// Why packing rows into blocks of `size` bytes ended early; where they have no room, with how many blocks they need. The caller owes
-/// limits that images may state. Takes memory, and tells of no number where it is refused.
-///
-/// Source: own.
+/// Why packing rows into blocks of `size` bytes ended early; where they have no room, with how many blocks they need. Takes memory,
+/// and tells of no number where it is refused.
 pub fn with_need(alloc: Global, size: u32, limits: Limits, rows: &[PackRow<'_>], stop: Stop) -> Stop
     requires { IsLimits limits }
     ensures { result.fault ≡ stop.fault }

@@ -5,7 +5,7 @@ ghost use Rattle.std.specs.Prelude.{◌≡◌};
 use crate::line::{Piece, say};
 use lfs_host::Host;
 
-/// Tells why a text is no path, and which one may be meant. Takes no memory.
+/// Tells why a text is no path, and which one may be meant.
 pub(crate) fn tell_no_path<H: Host>(host: &mut H, image: &str, text: &[u8])
     ensures kept { H.known host.new ≡ H.known host.old }
 {

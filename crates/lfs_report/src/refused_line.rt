@@ -3,7 +3,7 @@
 ghost use Rattle.std.specs.Prelude.{◌≡◌};
 ghost use Rattle.lfs_report.specs.RefusedLine.{fault_of_line, is_of_step, line_refused, numbered};
 
-use crate::beside::Beside;
+use crate::context::Context;
 use crate::stated::Statement;
 use crate::stop::Stop;
 use lfs_command::Refusal;
@@ -22,9 +22,7 @@ fn fault_of_line(fault: LineFault) -> Fault
     }
 }
 
-/// Why the line of a number is refused, with what is wrong in it; want of memory is of no line. Takes no memory.
-///
-/// Source: own.
+/// Why the line of a number is refused, with what is wrong in it; want of memory is of no line.
 pub fn stop_at(number: usize, fault: Fault, flaw: Option<Flaw>) -> Stop
     ensures fault { result.fault ≡ fault }
     ensures line { result.statement ≡ line_refused number fault flaw }
@@ -41,9 +39,7 @@ pub fn stop_at(number: usize, fault: Fault, flaw: Option<Flaw>) -> Stop
     }
 }
 
-/// Why a line says no step. Takes no memory.
-///
-/// Source: own.
+/// Why a line says no step.
 pub fn stop_of_line(first: ScriptFault) -> Stop
     ensures fault { result.fault ≡ fault_of_line first.fault }
     ensures line { result.statement ≡ line_refused first.number (fault_of_line first.fault) first.flaw }
@@ -51,9 +47,7 @@ pub fn stop_of_line(first: ScriptFault) -> Stop
     stop_at(first.number, fault_of_line(first.fault), first.flaw)
 }
 
-/// Why steps of lines are refused; where one is, with the number of its line. Takes no memory.
-///
-/// Source: own.
+/// Why steps of lines are refused; where one is, with the number of its line.
 pub fn with_number(lines: &[ScriptLine<'_>], stop: Stop) -> Stop
     ensures fault { result.fault ≡ stop.fault }
     ensures line { result.statement ≡ numbered lines.now stop }
@@ -79,16 +73,14 @@ fn is_of_step(fault: Fault) -> bool
 }
 
 /// Why a script is refused; where a line of its text is, with that in `beside`. Takes memory, and tells of no line where there is none.
-///
-/// Source: own.
-pub fn with_line(alloc: Global, text: &[u8], beside: &mut Beside, stop: Stop) -> Stop
+pub fn with_line(alloc: Global, text: &[u8], context: &mut Context, stop: Stop) -> Stop
     ensures { result.fault ≡ stop.fault }
 {
     let Some(Statement::Line(number, _)) = stop.statement else {
         return stop;
     };
     if let Some(line) = copied_line(alloc, text, number) {
-        beside.text = line;
+        context.text = line;
         return stop;
     }
     stop.with(None)

@@ -2,7 +2,7 @@
 
 ghost use Rattle.std.specs.Prelude.{◌≡◌};
 
-use crate::beside::Beside;
+use crate::context::Context;
 use crate::finding::Finding;
 use crate::stated::Statement;
 use crate::stop::Stop;
@@ -14,13 +14,11 @@ use std::alloc::Global;
 
 /// Why packing rows ended early; where that is for one of them, with what is said of it, and with the text of its path in `beside`.
 /// Takes memory, and tells of no row where it is refused.
-///
-/// Source: own.
 pub fn with_row(
     alloc: Global,
     limits: Limits,
     rows: &[PackRow<'_>],
-    beside: &mut Beside,
+    context: &mut Context,
     stop: Stop,
 ) -> Stop
     ensures { result.fault ≡ stop.fault }
@@ -31,7 +29,7 @@ pub fn with_row(
     let Some(text) = copied_path(alloc, rows, stop.at) else {
         return stop;
     };
-    beside.text = text;
+    context.text = text;
     stop.with(Some(Statement::Row(finding)))
 }
 

@@ -3,8 +3,6 @@
 use crate::stated::Sight;
 
 /// What is seen of a step before it is run, which takes its bytes.
-///
-/// Source: own.
 #[derive(Clone, Copy)]
 pub struct Seen {
     /// What is seen of the image that another is compared with.

@@ -4,12 +4,10 @@ use crate::finding::Finding;
 use crate::path_note::PathNote;
 use byteorder::{ByteOrder, LittleEndian};
 use lfs_block::{ImageFault, MountFault};
+use lfs_fs::VERSION;
 use lfs_lower::{StatedVersion, superblock_words, unread_version};
 use lfs_request::{Fault, OtherFault};
 use lfs_texts::Flaw;
-
-/// The disk version that is edited.
-const VERSION: u32 = 0x0002_0000;
 
 /// What a superblock states: the disk version, the size of a block in bytes, and the number of blocks.
 #[derive(Clone, Copy)]
@@ -23,8 +21,6 @@ pub struct Stated {
 }
 
 /// What is seen of bytes that are read as an image, whatever they are.
-///
-/// Source: own.
 #[derive(Clone, Copy)]
 pub struct Sight {
     /// The size of a block, in bytes.
@@ -38,7 +34,7 @@ pub struct Sight {
 }
 
 impl Sight {
-    /// What is seen of no bytes. Takes no memory.
+    /// What is seen of no bytes.
     pub fn none() -> Sight {
         Sight {
             size: 0,
@@ -48,7 +44,7 @@ impl Sight {
         }
     }
 
-    /// What is seen of bytes, as of blocks of `size` bytes. Takes no memory.
+    /// What is seen of bytes, as of blocks of `size` bytes.
     pub fn of(size: u32, bytes: &[u8]) -> Sight {
         Sight {
             size,
@@ -73,8 +69,6 @@ pub enum StatedPlace {
 }
 
 /// What is told behind a fault.
-///
-/// Source: own.
 #[derive(Clone, Copy)]
 pub enum Statement {
     /// What an image states somewhere.
@@ -107,7 +101,7 @@ pub enum Statement {
     NewImage,
 }
 
-/// What is told of an image behind a fault; `other` is what is seen of the other one that is read. Takes no memory.
+/// What is told of an image behind a fault; `other` is what is seen of the other one that is read.
 pub(crate) fn statement_for(fault: Fault, image: Sight, other: Sight) -> Option<Statement> {
     match fault {
         Fault::Image(fault) => statement_of_bytes(fault, image),
@@ -160,12 +154,12 @@ fn place_of(fault: MountFault, stated: Stated) -> Option<StatedPlace> {
     }
 }
 
-/// What the superblock at the front of block 0 states, whatever the size of a block is; nothing where there is none. Takes no memory.
+/// What the superblock at the front of block 0 states, whatever the size of a block is; nothing where there is none.
 pub(crate) fn stated_in(image: &[u8]) -> Option<Stated> {
     stated_of(superblock_words(image)?)
 }
 
-/// What the first words of a superblock's struct state; nothing where there are too few. Takes no memory.
+/// What the first words of a superblock's struct state; nothing where there are too few.
 pub(crate) fn stated_of(words: &[u8]) -> Option<Stated> {
     let words = words.get(..12)?;
     Some(Stated {

@@ -5,8 +5,6 @@ use lfs_request::Fault;
 use std::alloc::{AllocError, AllocFailed};
 
 /// Why a run ends without having done what it was asked for, with what is told of it beside.
-///
-/// Source: own.
 #[derive(Clone, Copy)]
 pub struct Stop {
     /// The fault.
@@ -22,9 +20,7 @@ pub struct Stop {
 impl Stop {
     ghost use Rattle.std.specs.Prelude.{◌≡◌};
 
-    /// The same with another statement. Takes no memory.
-    ///
-    /// Source: own.
+    /// The same with another statement.
     pub fn with(self, statement: Option<Statement>) -> Stop
         ensures fault { result.fault ≡ self.fault }
         ensures statement { result.statement ≡ statement }

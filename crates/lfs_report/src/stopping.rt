@@ -2,7 +2,7 @@
 
 ghost use Rattle.std.specs.Prelude.{◌≡◌};
 
-use crate::beside::Beside;
+use crate::context::Context;
 use crate::fault_line::statement_at;
 use crate::path_note::{PathNote, note_of};
 use crate::seen::Seen;
@@ -10,15 +10,13 @@ use crate::stated::{Sight, Statement, statement_for};
 use crate::stop::Stop;
 use crate::superblock::superblock_statement;
 use lfs_block::{Blocks, Image, MountFault};
-use lfs_book::Journal;
 use lfs_command::Refusal;
 use lfs_history::{Move, StepFault};
+use lfs_journal::Journal;
 use lfs_request::{Fault, KeptJournal, Outcome, Place, Request, Task};
 use std::alloc::Global;
 
-/// Why bytes were refused as an image of blocks of `size` bytes, with what they state. Takes no memory.
-///
-/// Source: own.
+/// Why bytes were refused as an image of blocks of `size` bytes, with what they state.
 pub fn stop_of_image(fault: Fault, size: u32, bytes: &[u8]) -> Stop
     ensures { result.fault ≡ fault }
 {
@@ -33,15 +31,13 @@ pub fn stop_of_image(fault: Fault, size: u32, bytes: &[u8]) -> Stop
 /// Why a step that was run for a request ended early, with what its image states, the place of its fault, whose text is put into `beside`,
 /// what is known of its path there, or what its journal has; `seen` is what was seen of the step before. Takes memory, and tells of
 /// nothing more where it is refused.
-///
-/// Source: own.
 pub fn stop_of_run(
     alloc: Global,
     request: &Request<'_>,
     fault: Fault,
     outcome: Outcome,
     seen: Seen,
-    beside: &mut Beside,
+    context: &mut Context,
 ) -> Stop
     ensures fault { result.fault ≡ fault }
     ensures at { result.at ≡ outcome.at }
@@ -52,9 +48,9 @@ pub fn stop_of_run(
     let statement = match fault {
         Fault::Step(fault) => changes_statement(alloc, &request.task, fault, outcome.journal),
         Fault::Refused(refusal) => {
-            refused_statement(alloc, &request.task, refusal, outcome, beside)
+            refused_statement(alloc, &request.task, refusal, outcome, context)
         }
-        Fault::Mount(fault) => statement_of_bytes(alloc, size, fault, outcome.image, beside),
+        Fault::Mount(fault) => statement_of_bytes(alloc, size, fault, outcome.image, context),
         fault => statement_for(fault, Sight::of(size, &outcome.image), seen.other),
     };
     Stop {
@@ -71,13 +67,13 @@ fn refused_statement(
     task: &Task<'_>,
     refusal: Refusal,
     outcome: Outcome,
-    beside: &mut Beside,
+    context: &mut Context,
 ) -> Option<Statement> {
     let command = outcome.refused;
     let place = outcome.place;
     match command {
         Some(command) => {
-            beside.text = command;
+            context.text = command;
             Some(Statement::Command)
         }
         None => path_statement(note_of(alloc, task, refusal, place)),
@@ -86,22 +82,20 @@ fn refused_statement(
 
 /// Why a folder wasn't made of an image for a task, with what that states, with the place of its fault, whose text is put into `beside`, or
 /// with what is known of the task's path at its place. Takes memory, and tells of nothing more where it is refused.
-///
-/// Source: own.
 pub fn stop_of_extracting(
     alloc: Global,
     task: &Task<'_>,
     fault: Fault,
     image: Image,
     place: Option<Place>,
-    beside: &mut Beside,
+    context: &mut Context,
 ) -> Stop
     ensures { result.fault ≡ fault }
 {
     let size = image.size();
     let bytes = image.into_bytes();
     let statement = match fault {
-        Fault::Mount(fault) => statement_of_bytes(alloc, size, fault, bytes, beside),
+        Fault::Mount(fault) => statement_of_bytes(alloc, size, fault, bytes, context),
         Fault::Refused(refusal) => path_statement(note_of(alloc, task, refusal, place)),
         fault => statement_for(fault, Sight::of(size, &bytes), Sight::none()),
     };
@@ -119,11 +113,11 @@ fn statement_of_bytes(
     size: u32,
     fault: MountFault,
     bytes: Vec<u8>,
-    beside: &mut Beside,
+    context: &mut Context,
 ) -> Option<Statement> {
     let seen = Sight::of(size, &bytes);
     match Image::new(bytes, size) {
-        Ok(image) => statement_of_mount(alloc, fault, &image, seen, beside),
+        Ok(image) => statement_of_mount(alloc, fault, &image, seen, context),
         Err(_) => None,
     }
 }
@@ -135,13 +129,13 @@ pub(crate) fn statement_of_mount(
     fault: MountFault,
     image: &Image,
     seen: Sight,
-    beside: &mut Beside,
+    context: &mut Context,
 ) -> Option<Statement> {
     match fault {
         MountFault::Geometry | MountFault::Version => superblock_statement(alloc, fault, image),
         _ => {
             let usual = statement_for(Fault::Mount(fault), seen, Sight::none());
-            statement_at(alloc, image, fault, usual, beside)
+            statement_at(alloc, image, fault, usual, context)
         }
     }
 }
@@ -178,7 +172,7 @@ fn path_statement(note: Option<PathNote>) -> Option<Statement> {
     }
 }
 
-/// How many whole blocks there are. Takes no memory.
+/// How many whole blocks there are.
 pub(crate) fn blocks_in(size: u32, bytes: &[u8]) -> Option<usize> {
     bytes.len().checked_div(size as usize)
 }

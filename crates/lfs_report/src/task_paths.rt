@@ -4,7 +4,7 @@ use crate::path_note::Front;
 use lfs_history::Move;
 use lfs_request::{Query, Task};
 
-/// The name of the other image that a task reads, where it reads one. Takes no memory.
+/// The name of the other image that a task reads, where it reads one.
 pub(crate) fn other_of<'a>(task: &Task<'a>) -> Option<&'a str> {
     match task {
         Task::Ask {
@@ -26,11 +26,11 @@ pub struct TaskPaths<'a> {
 }
 
 impl<'a> TaskPaths<'a> {
-    /// The paths of a task, where it has any. Takes no memory.
+    /// The paths of a task, where it has any.
     pub(crate) fn of(task: &Task<'a>) -> Option<TaskPaths<'a>> {
         match task {
             Task::Ask {
-                query: Query::Cat { path } | Query::Ls { path },
+                query: Query::Cat { path } | Query::Ls { path, .. },
                 ..
             }
             | Task::Extract { path, .. } => Some(TaskPaths {
@@ -45,7 +45,7 @@ impl<'a> TaskPaths<'a> {
         }
     }
 
-    /// The text of a front. Takes no memory.
+    /// The text of a front.
     pub(crate) fn text(self, front: Front) -> &'a [u8] {
         let path = match self.target {
             Some(target) if front.is_of_target => target,
@@ -54,7 +54,7 @@ impl<'a> TaskPaths<'a> {
         path.get(..front.len).unwrap_or(path)
     }
 
-    /// The front of so many names of the first path, or of the one that something is moved to. Takes no memory.
+    /// The front of so many names of the first path, or of the one that something is moved to.
     pub(crate) fn front(self, is_of_target: bool, names: usize) -> Front {
         let front = if is_of_target {
             self.last()
@@ -67,7 +67,7 @@ impl<'a> TaskPaths<'a> {
         }
     }
 
-    /// The whole of the first path. Takes no memory.
+    /// The whole of the first path.
     pub(crate) fn first(self) -> Front {
         Front {
             is_of_target: false,
@@ -75,7 +75,7 @@ impl<'a> TaskPaths<'a> {
         }
     }
 
-    /// The whole of the path that something is moved to, or of the only one. Takes no memory.
+    /// The whole of the path that something is moved to, or of the only one.
     pub(crate) fn last(self) -> Front {
         match self.target {
             Some(target) => Front {

@@ -4,7 +4,7 @@ ghost use Rattle.std.specs.Prelude.{◌≡◌, Some};
 ghost use Rattle.lfs_request.specs.Fault.{status_of};
 ghost use Rattle.lfs_report.specs.Stop.{stopped_by};
 
-use crate::beside::Beside;
+use crate::context::Context;
 use crate::finding::Finding;
 use crate::geometry::{tell_count, tell_limit};
 use crate::hint::hint_of;
@@ -22,34 +22,33 @@ use lfs_command::{Command, Refusal};
 use lfs_exchange::tell_of_image;
 use lfs_history::{Move, Source};
 use lfs_host::Host;
+use lfs_json::Told;
 use lfs_request::{Fault, OtherFault, Query, Request, Task, TreeChange};
 use lfs_texts::Flaw;
 
-/// Tells on standard error how a request ended, with what is kept beside that end, and answers its status. Takes no memory.
-///
-/// Source: own.
+/// Tells on standard error how a request ended, with what is kept beside that end, and answers its status.
 pub fn tell_end<H: Host>(
     host: &mut H,
     request: &Request<'_>,
     end: &Result<(), Stop>,
-    beside: &Beside,
+    context: &Context,
 ) -> u8
     ensures status { result ≡ status_of (stopped_by end.now) }
     ensures kept { H.known host.new ≡ H.known host.old }
 {
     match end {
         Ok(()) => {
-            tell_unmounted(host, request.image, beside.unmounted);
-            tell_lines(host, request.image, &beside.lines);
+            tell_unmounted(host, request.image, context.unmounted);
+            tell_lines(host, request.image, &context.lines);
             0
         }
         Err(stop) if stop.fault == Fault::Differ => stop.fault.status(),
-        Err(stop) => tell_of(host, request, stop, beside),
+        Err(stop) => tell_of(host, request, stop, context),
     }
 }
 
 /// Tells why a request ended early, and answers the status.
-fn tell_of<H: Host>(host: &mut H, request: &Request<'_>, stop: &Stop, beside: &Beside) -> u8
+fn tell_of<H: Host>(host: &mut H, request: &Request<'_>, stop: &Stop, context: &Context) -> u8
     ensures status { result ≡ status_of (Some stop.now.fault) }
     ensures kept { H.known host.new ≡ H.known host.old }
 {
@@ -68,15 +67,15 @@ fn tell_of<H: Host>(host: &mut H, request: &Request<'_>, stop: &Stop, beside: &B
         _ => {}
     }
     match (stop.statement, hint_of(request)) {
-        (Some(Statement::Expanded), None) if beside.place.is_some() => {
-            tell_place(host, image, beside);
+        (Some(Statement::Expanded), None) if context.place.is_some() => {
+            tell_place(host, image, context);
         }
         (None, _) | (Some(Statement::Expanded), None) => {
             tell_refused(host, request, image, stop.fault);
         }
-        (Some(statement), _) => tell_statement(host, request, image, statement, beside),
+        (Some(statement), _) => tell_statement(host, request, image, statement, context),
     }
-    tell_lines(host, image, &beside.lines);
+    tell_lines(host, image, &context.lines);
     status
 }
 
@@ -95,17 +94,18 @@ fn tell_unmounted<H: Host>(host: &mut H, image: &str, fault: Option<MountFault>)
 {
     if let Some(fault) = fault {
         let number = fault.number();
-        host.complain(format_args!(
-            "lfsed: {image}: doesn't mount ({number} {fault}); nothing is lost\n"
-        ));
+        host.complain(Told {
+            of: image,
+            text: format_args!("doesn't mount ({number} {fault}); nothing is lost"),
+        });
     }
 }
 
 /// Tells the place of a fault in the image of this name.
-fn tell_place<H: Host>(host: &mut H, image: &str, beside: &Beside)
+fn tell_place<H: Host>(host: &mut H, image: &str, context: &Context)
     ensures kept { H.known host.new ≡ H.known host.old }
 {
-    if let Some(place) = &beside.place {
+    if let Some(place) = &context.place {
         say_words(host, image, place.as_str());
     }
 }
@@ -168,9 +168,10 @@ fn tell_space<H: Host>(host: &mut H, request: &Request<'_>)
 {
     if let Task::Change(_) = request.task {
         let image = request.image;
-        host.complain(format_args!(
-            "lfsed: {image}: lfsed blocks --sum {image} says what each path takes\n"
-        ));
+        host.complain(Told {
+            of: image,
+            text: format_args!("lfsed blocks --sum {image} says what each path takes"),
+        });
     }
 }
 
@@ -266,11 +267,9 @@ fn tell_line<H: Host>(
     ensures kept { H.known host.new ≡ H.known host.old }
 {
     if let Task::Batch { file, .. } = request.task {
-        host.complain(ToldLine {
-            script: file.unwrap_or("standard input"),
-            number,
-            flaw,
-            text,
+        host.complain(Told {
+            of: file.unwrap_or("standard input"),
+            text: ToldLine { number, flaw, text },
         });
     }
 }
@@ -340,7 +339,7 @@ fn tell_statement<H: Host>(
     request: &Request<'_>,
     image: &str,
     statement: Statement,
-    beside: &Beside,
+    context: &Context,
 )
     ensures kept { H.known host.new ≡ H.known host.old }
 {
@@ -352,10 +351,10 @@ fn tell_statement<H: Host>(
         Statement::Expanded => tell_expanded(host, image, hint),
         Statement::Length(len, size) => tell_part(host, image, len, size),
         Statement::Path(note) => tell_note(host, request, note),
-        Statement::Place => tell_place(host, image, beside),
-        Statement::Row(finding) => tell_row(host, image, &beside.text, finding),
-        Statement::Line(number, flaw) => tell_line(host, request, &beside.text, number, flaw),
-        Statement::Command => tell_command(host, request, &beside.text),
+        Statement::Place => tell_place(host, image, context),
+        Statement::Row(finding) => tell_row(host, image, &context.text, finding),
+        Statement::Line(number, flaw) => tell_line(host, request, &context.text, number, flaw),
+        Statement::Command => tell_command(host, request, &context.text),
         Statement::Need(count) => tell_need(host, request, count),
         Statement::Changes(count) => tell_changes(host, request, count),
         Statement::OtherJournal => tell_other_journal(host, image),
@@ -403,18 +402,22 @@ fn tell_changes<H: Host>(host: &mut H, request: &Request<'_>, count: usize)
 fn tell_other_journal<H: Host>(host: &mut H, image: &str)
     ensures kept { H.known host.new ≡ H.known host.old }
 {
-    host.complain(format_args!(
-        "lfsed: {image}.lfsj belongs to another image; lfsed forget {image} drops it\n"
-    ));
+    host.complain(Told {
+        of: format_args!("{image}.lfsj"),
+        text: format_args!("belongs to another image; lfsed forget {image} drops it"),
+    });
 }
 
 /// Tells that what was to become an image is the one that its journal leads to.
 fn tell_new_image<H: Host>(host: &mut H, image: &str)
     ensures kept { H.known host.new ≡ H.known host.old }
 {
-    host.complain(format_args!(
-        "lfsed: {image}.new: is the image of the journal: renamed to {image} it mends both, which forget would lose\n"
-    ));
+    host.complain(Told {
+        of: format_args!("{image}.new"),
+        text: format_args!(
+            "is the image of the journal: renamed to {image} it mends both, which forget would lose"
+        ),
+    });
 }
 
 /// The name of the image that a fault is of.

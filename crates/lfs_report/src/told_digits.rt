@@ -10,10 +10,7 @@ use lfs_host::Host;
 use lfs_request::Fault;
 use lfs_texts::Reason;
 
-/// Tells that the digits of an attribute's kind or value spell nothing, and which word of a command they are; answers the status. Takes
-/// no memory.
-///
-/// Source: own.
+/// Tells that the digits of an attribute's kind or value spell nothing, and which word of a command they are; answers the status.
 pub fn tell_digits<'a, H: Host>(host: &mut H, command: &str, reason: Reason, word: &'a str) -> u8
     ensures status { result ≡ status_of (Some BadHex) }
     ensures kept { H.known host.new ≡ H.known host.old }

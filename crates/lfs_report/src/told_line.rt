@@ -6,8 +6,6 @@ use std::fmt;
 /// A line of a script that is refused, as it is told on standard error.
 #[derive(Clone, Copy)]
 pub struct ToldLine<'a> {
-    /// What the script is read from.
-    pub script: &'a str,
     /// The line's number.
     pub number: usize,
     /// What is wrong in it, where it says no step.
@@ -18,7 +16,7 @@ pub struct ToldLine<'a> {
 
 impl fmt::Display for ToldLine<'_> {
     fn fmt<W: fmt::Write>(&self, f: &mut fmt::Formatter<W>) -> fmt::Result {
-        write!(f, "lfsed: {}: line {}", self.script, self.number)?;
+        write!(f, "line {}", self.number)?;
         if let Some(flaw) = self.flaw {
             write!(f, ", column {}: {}", flaw.column, flaw.reason)?;
         }
@@ -29,6 +27,6 @@ impl fmt::Display for ToldLine<'_> {
                 _ => f.write_char(char::from(byte))?,
             }
         }
-        f.write_str("\n")
+        Ok(())
     }
 }

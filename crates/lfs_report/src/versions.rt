@@ -14,7 +14,7 @@ const FIRST_BLOCK: &str = "its first block states disk version ";
 /// What is told in front of the disk version of a later commit, for which an image is refused.
 const CHANGED: &str = "a device has changed it with disk version ";
 
-/// Tells what is stated somewhere in an image. Takes no memory.
+/// Tells what is stated somewhere in an image.
 pub(crate) fn tell_stated<H: Host>(
     host: &mut H,
     image: &str,
@@ -52,7 +52,7 @@ pub(crate) fn tell_stated<H: Host>(
     }
 }
 
-/// Tells the disk version that a block states of which version 2.0 reads no commit. Takes no memory.
+/// Tells the disk version that a block states of which version 2.0 reads no commit.
 pub(crate) fn tell_unread<H: Host>(
     host: &mut H,
     image: &str,
@@ -95,7 +95,7 @@ fn tell_stated_version<'a, H: Host>(
     }
 }
 
-/// Tells that a device has changed the image of this name, for which it is refused. Takes no memory.
+/// Tells that a device has changed the image of this name, for which it is refused.
 pub(crate) fn tell_changed<H: Host>(
     host: &mut H,
     image: &str,
@@ -126,7 +126,7 @@ pub(crate) fn tell_changed<H: Host>(
     }
 }
 
-/// Tells by which words an image is read whose superblock a device has expanded, where there are any. Takes no memory.
+/// Tells by which words an image is read whose superblock a device has expanded, where there are any.
 pub(crate) fn tell_expanded<H: Host>(host: &mut H, image: &str, hint: Option<&'static str>)
     ensures kept { H.known host.new ≡ H.known host.old }
 {

@@ -6,9 +6,7 @@ use crate::line::say_words;
 use lfs_host::Host;
 use lfs_request::{Request, Task};
 
-/// Tells on standard error of an image that stands in the folder that is packed into it. Takes no memory.
-///
-/// Source: own.
+/// Tells on standard error of an image that stands in the folder that is packed into it.
 pub fn tell_within<H: Host>(host: &mut H, request: &Request<'_>)
     ensures kept { H.known host.new ≡ H.known host.old }
 {

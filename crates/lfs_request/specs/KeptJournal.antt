@@ -1,6 +1,6 @@
 -- The bytes of a journal that is kept (own).
 use Rattle.std.specs.Prelude.{ℕ, List}
-use Rattle.lfs_book.specs.Book.{journal_bytes}
+use Rattle.lfs_journal.specs.Book.{journal_bytes}
 use Rattle.lfs_request.specs.declared.kept_journal.JournalText.{JournalText}
 use Rattle.lfs_request.specs.declared.kept_journal.JournalText.TheVariants.{Given, Spelled}
 

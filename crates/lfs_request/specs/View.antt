@@ -4,8 +4,8 @@ use Rattle.std.specs.Option.{unwrap_or}
 use Rattle.lfs_request.specs.declared.view.View.{View}
 
 -- as all of its file, as it is
-abbrev pub whole_view : View
-whole_view = record { by_device = false; offset = None }
+abbrev pub complete_view : View
+complete_view = record { by_device = false; offset = None }
 
 -- where in its file it begins
 abbrev pub start_of : View → ℕ

@@ -1,8 +1,6 @@
 //! How many blocks a packed image gets.
 
 /// How many blocks a packed image gets.
-///
-/// Source: own.
 #[derive(Clone, Copy)]
 pub enum Extent {
     /// So many.

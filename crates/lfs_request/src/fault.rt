@@ -9,8 +9,6 @@ use std::fmt;
 use thiserror::Error;
 
 /// Why the program ends without having done what it was asked for.
-///
-/// Source: own.
 #[derive(Clone, Copy, Debug, PartialEq, Eq, Error)]
 pub enum Fault {
     /// The bytes are no image.

@@ -1,7 +1,7 @@
 //! The journal that is kept behind a run.
 
-use lfs_book::Journal;
-use lfs_sink::{Sink, Text, send};
+use lfs_host::{Sink, Text, send};
+use lfs_journal::Journal;
 use std::alloc::Global;
 use std::marker::Model;
 
@@ -16,8 +16,6 @@ enum JournalText {
 
 /// The journal that is kept behind a run. Its meaning is its bytes. Those of changes are sent as they stand there, and never gathered in
 /// memory.
-///
-/// Source: own.
 #[derive(Drop)]
 pub struct KeptJournal {
     text: JournalText,
@@ -33,9 +31,9 @@ impl Model for KeptJournal {
 
 impl KeptJournal {
     ghost use Rattle.std.specs.Prelude.{◌≡◌, IfSome};
-    ghost use Rattle.lfs_book.specs.Book.{journal_bytes};
+    ghost use Rattle.lfs_journal.specs.Book.{journal_bytes};
 
-    /// These bytes. Takes no memory.
+    /// These bytes.
     pub(crate) fn given(bytes: Vec<u8>) -> KeptJournal
         ensures { result.items ≡ bytes.items }
     {
@@ -44,7 +42,7 @@ impl KeptJournal {
         }
     }
 
-    /// The bytes of a journal. Takes no memory.
+    /// The bytes of a journal.
     pub(crate) fn spelled(journal: Journal) -> KeptJournal
         ensures { result.items ≡ journal_bytes journal }
     {

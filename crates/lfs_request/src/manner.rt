@@ -3,8 +3,6 @@
 use crate::view::View;
 
 /// How an image's file is read.
-///
-/// Source: own.
 #[derive(Clone, Copy)]
 pub struct Manner {
     /// Whether the state before commits of a later disk version is gone on with, where such stand in it, which is refused else.

@@ -5,8 +5,6 @@ use std::fmt;
 use thiserror::Error;
 
 /// Why an image that another is compared with is refused.
-///
-/// Source: own.
 #[derive(Clone, Copy, Debug, PartialEq, Eq, Error)]
 pub enum OtherFault {
     /// Its bytes are no image.

@@ -3,12 +3,10 @@
 use crate::fault::Fault;
 use crate::kept_journal::KeptJournal;
 use crate::place::Place;
-use lfs_book::Journal;
+use lfs_journal::Journal;
 
 /// What a run answers: the image and the journal to be kept, why nothing was done where there is a reason, at which of several steps
 /// that is, and the status to end with.
-///
-/// Source: own.
 #[derive(Drop)]
 pub struct Outcome {
     /// The image's bytes.
@@ -29,10 +27,10 @@ pub struct Outcome {
 
 impl Outcome {
     ghost use Rattle.std.specs.Prelude.{◌≡◌, None};
-    ghost use Rattle.lfs_book.specs.Book.{journal_bytes};
+    ghost use Rattle.lfs_journal.specs.Book.{journal_bytes};
     ghost use Rattle.lfs_request.specs.Fault.{status_of};
 
-    /// The outcome with this fault, if any, and its status. Takes no memory.
+    /// The outcome with this fault, if any, and its status.
     pub fn new(image: Vec<u8>, journal: Vec<u8>, fault: Option<Fault>) -> Outcome
         ensures kept { (result.image ≡ image) × (result.journal.items ≡ journal.items) }
         ensures fault { result.fault ≡ fault }
@@ -42,7 +40,6 @@ impl Outcome {
     }
 
     /// The outcome with this fault, if any, which is met behind so many steps or rows, at a place of its path where that is known.
-    /// Takes no memory.
     pub fn placed(
         image: Vec<u8>,
         journal: Vec<u8>,
@@ -70,7 +67,7 @@ impl Outcome {
         }
     }
 
-    /// The outcome that keeps an image and a journal, with nothing refused. Takes no memory.
+    /// The outcome that keeps an image and a journal, with nothing refused.
     pub fn done(image: Vec<u8>, journal: Journal) -> Outcome
         ensures kept { (result.image ≡ image) × (result.journal.items ≡ journal_bytes journal) }
         ensures fault { result.fault ≡ None }
@@ -86,7 +83,7 @@ impl Outcome {
             status: 0,
         }
     }
-    /// The same, with the command that is refused. Takes no memory.
+    /// The same, with the command that is refused.
     pub fn with_refused(self, refused: Option<Vec<u8>>) -> Outcome
         ensures kept { (result.image ≡ self.image) × (result.journal.items ≡ self.journal.items) }
         ensures fault { result.fault ≡ self.fault }

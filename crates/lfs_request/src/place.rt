@@ -6,8 +6,6 @@ use lfs_fs::{Limits, Outline, ROOT, entry_in};
 use std::alloc::Global;
 
 /// Where on its path a step is refused, for what is told of it.
-///
-/// Source: own.
 #[derive(Clone, Copy)]
 pub struct Place {
     /// Whether it is on the path that something is moved to.
@@ -26,8 +24,6 @@ impl Place {
 
     /// Where a path is refused in an image of this outline, or `target`, to which something is moved from there, where the whole of the
     /// path leads to something. `None` where one of the texts is no path, or memory is wanting.
-    ///
-    /// Source: own.
     pub fn of(alloc: Global, outline: &Outline, path: &[u8], target: Option<&[u8]>) -> Option<Place>
         ensures on { IfSome result (IsPlaceOn outline.now path.now target.entry) }
         ensures limits { IfSome result (λ place. place.limits ≡ outline.now.limits) }

@@ -1,8 +1,6 @@
 //! What is asked of an image.
 
 /// What is asked of an image and its journal, which it leaves as they are; another image is there by its name, or by its bytes (`O`).
-///
-/// Source: own.
 #[derive(Clone, Copy, Drop)]
 pub enum Query<'a, O> {
     /// Whether it mounts, and what it holds in numbers.
@@ -11,6 +9,8 @@ pub enum Query<'a, O> {
     Ls {
         /// The text of the path.
         path: &'a [u8],
+        /// Whether the digest of each file's contents is said too.
+        digests: bool,
     },
     /// Which block holds what.
     Blocks {

@@ -3,8 +3,6 @@
 use crate::task::Task;
 
 /// What is asked for on an image.
-///
-/// Source: own.
 #[derive(Drop)]
 pub struct Request<'a> {
     /// What is to be done.

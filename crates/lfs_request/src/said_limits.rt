@@ -3,8 +3,6 @@
 use lfs_fs::Limits;
 
 /// The greatest lengths of a name, a file and an attribute, in bytes, as far as they are said.
-///
-/// Source: own.
 #[derive(Clone, Copy)]
 pub struct SaidLimits {
     /// Of a name.
@@ -20,9 +18,7 @@ impl SaidLimits {
     ghost use Rattle.lfs_fs.specs.Superblock.{IsLimits};
     ghost use Rattle.lfs_request.specs.SaidLimits.{AreSaidInRange, limits_or};
 
-    /// Those that are said, and these in the place of the others. Takes no memory.
-    ///
-    /// Source: own.
+    /// Those that are said, and these in the place of the others.
     pub fn or(self, limits: Limits) -> Limits
         ensures limits { result ≡ limits_or self limits }
         ensures range { AreSaidInRange self → IsLimits limits → IsLimits result }

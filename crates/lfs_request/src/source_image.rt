@@ -3,8 +3,6 @@
 use crate::manner::Manner;
 
 /// An image that a new one is made of.
-///
-/// Source: own.
 #[derive(Clone, Copy)]
 pub struct SourceImage<'a> {
     /// The name of its file.

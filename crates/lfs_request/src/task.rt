@@ -8,10 +8,9 @@ use crate::tree_change::TreeChange;
 use crate::view::View;
 use lfs_fs::Limits;
 use lfs_history::{Move, Source};
+use lfs_json::Form;
 
 /// What is asked for on an image, by the names of what is to be read for it.
-///
-/// Source: own.
 #[derive(Drop)]
 pub enum Task<'a> {
     /// A new image of this many blocks with these limits.
@@ -59,6 +58,8 @@ pub enum Task<'a> {
     Ask {
         /// The question; another image is there by the name of its file.
         query: Query<'a, &'a str>,
+        /// The form of what is answered, but for the contents of a file.
+        form: Form,
         /// How the image is looked at; another image is all of its file, and read as a device does where this one is.
         view: View,
     },

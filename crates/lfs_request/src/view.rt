@@ -1,8 +1,6 @@
 //! How an image is looked at in its file.
 
 /// How an image is looked at in its file.
-///
-/// Source: own.
 #[derive(Clone, Copy)]
 pub struct View {
     /// Whether it is read as a device does: also disk version 2.1, and a superblock that was expanded.
@@ -15,9 +13,7 @@ impl View {
     ghost use Rattle.std.specs.Prelude.{◌≡◌};
     ghost use Rattle.lfs_request.specs.View.{start_of};
 
-    /// Where in its file it begins, in bytes. Takes no memory.
-    ///
-    /// Source: own.
+    /// Where in its file it begins, in bytes.
     pub fn start(self) -> u64
         ensures { result ≡ start_of self }
     {

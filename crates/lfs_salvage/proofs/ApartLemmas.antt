@@ -16,12 +16,12 @@ use Rattle.lfs_meta.specs.Part.{StoredPart}
 use Rattle.lfs_meta.specs.declared.kind.Kind.{Kind}
 use Rattle.lfs_meta.specs.declared.kind.Kind.TheVariants.{File, Dir, Super}
 use Rattle.lfs_salvage.specs.Apart.{ChainsAreApart, PartsAreInUse, TakesBlocks, calls_blocks, entries_blocks, fate_blocks, found_blocks}
-use Rattle.lfs_salvage.specs.AreaMade.{calls_uses, entries_uses, entry_uses, found_uses, home_of}
+use Rattle.lfs_salvage.specs.AreaMade.{calls_uses, entries_uses, entry_uses, found_uses, parent_of}
 use Rattle.lfs_salvage.specs.Fate.{Fate, In_chain, Elsewhere, Lost, chain_fate, chained, fate, head_fate, is_free, is_used, kind_fate, settled, uses_behind}
 use Rattle.lfs_salvage.specs.PartsUsed.{areas_uses, part_uses, parts_uses}
 use Rattle.lfs_salvage.specs.declared.block_use.BlockUse.{BlockUse}
 use Rattle.lfs_salvage.specs.declared.block_use.BlockUse.TheVariants as use_of
-use Rattle.lfs_salvage.specs.declared.home.Home.{Home}
+use Rattle.lfs_salvage.specs.declared.parent.Parent.{Parent}
 use Rattle.lfs_survey.specs.declared.area.Area.{Area}
 use Rattle.lfs_survey.specs.declared.found.Found.{Found}
 use Rattle.lfs_survey.specs.declared.found.Found.TheVariants.{Part, Refused}
@@ -144,79 +144,79 @@ none_used uses (b ∷ bs) is =
     All-cons (λ (x : ℕ). is_used uses x ≡ false) b bs both.0 (none_used uses bs both.1)
 
 -- what an entry takes
-abbrev pub Takes : List BlockUse → Home → Fate → Type 0
-Takes uses home f = TakesBlocks uses (uses_behind uses home f) (fate_blocks f)
+abbrev pub Takes : List BlockUse → Parent → Fate → Type 0
+Takes uses parent f = TakesBlocks uses (uses_behind uses parent f) (fate_blocks f)
 
-module _ (d : Disk) (uses : List BlockUse) (home : Home) (head size : ℕ) (disk : IsDisk d) (len : length uses ≡ d.count)
+module _ (d : Disk) (uses : List BlockUse) (parent : Parent) (head size : ℕ) (disk : IsDisk d) (len : length uses ≡ d.count)
     (differs : ChainsDiffer) where
   takes_any : (t : Bool) (blocks : List ℕ) → list_any (is_used uses) blocks ≡ t → chain_of d head size ≡ Some blocks
-      → Takes uses home (if t then Lost BlockTwice else In_chain head blocks size)
+      → Takes uses parent (if t then Lost BlockTwice else In_chain head blocks size)
   takes_any true blocks used is = takes_none uses
   takes_any false blocks used is =
       let known = differs d head size blocks disk is in
       record {
         apart = known.1;
         fresh = none_used uses blocks used;
-        taken = settled_takes uses head (use_of.Head home size) blocks refl
+        taken = settled_takes uses head (use_of.Head parent size) blocks refl
             (All-weaker (λ (b : ℕ). b < d.count) (λ (b : ℕ). b < length uses) (λ b less. rw len less) blocks known.0);
-        stays = settled_stays uses head (use_of.Head home size) blocks refl;
+        stays = settled_stays uses head (use_of.Head parent size) blocks refl;
       }
 
-  takes_chain : (o : Option (List ℕ)) → chain_of d head size ≡ o → Takes uses home (chain_fate uses head size o)
+  takes_chain : (o : Option (List ℕ)) → chain_of d head size ≡ o → Takes uses parent (chain_fate uses head size o)
   takes_chain None is = takes_none uses
   takes_chain (Some blocks) is = takes_any (list_any (is_used uses) blocks) blocks refl is
 
-  takes_same : (t : Bool) (other : Home) → Takes uses home (if t then Elsewhere other else Lost BlockTwice)
+  takes_same : (t : Bool) (other : Parent) → Takes uses parent (if t then Elsewhere other else Lost BlockTwice)
   takes_same true other = takes_none uses
   takes_same false other = takes_none uses
 
-  takes_head : (u : BlockUse) → Takes uses home (head_fate d uses head size u)
+  takes_head : (u : BlockUse) → Takes uses parent (head_fate d uses head size u)
   takes_head use_of.Free = takes_chain (chain_of d head size) refl
   takes_head (use_of.Part area call) = takes_none uses
   takes_head use_of.Chain = takes_none uses
   takes_head (use_of.Head other long) = takes_same (long == size) other
 
   takes_size : (t : Bool)
-      → Takes uses home (if t then In_chain head [] size else head_fate d uses head size (slice_index_or uses head use_of.Free))
+      → Takes uses parent (if t then In_chain head [] size else head_fate d uses head size (slice_index_or uses head use_of.Free))
   takes_size true = takes_none uses
   takes_size false = takes_head (slice_index_or uses head use_of.Free)
 
 module _ (d : Disk) (disk : IsDisk d) (differs : ChainsDiffer) where
-  takes_kind : (uses : List BlockUse) (home : Home) (kind : Kind) (body : StoredBody) → length uses ≡ d.count
-      → Takes uses home (kind_fate d uses kind body)
-  takes_kind uses home File (Inline bytes) len = takes_none uses
-  takes_kind uses home File (Chain head size) len = takes_size d uses home head size disk len differs (size == 0)
-  takes_kind uses home File (Directory_at first second) len = takes_none uses
-  takes_kind uses home Dir body len = takes_none uses
-  takes_kind uses home Super body len = takes_none uses
+  takes_kind : (uses : List BlockUse) (parent : Parent) (kind : Kind) (body : StoredBody) → length uses ≡ d.count
+      → Takes uses parent (kind_fate d uses kind body)
+  takes_kind uses parent File (Inline bytes) len = takes_none uses
+  takes_kind uses parent File (Chain head size) len = takes_size d uses parent head size disk len differs (size == 0)
+  takes_kind uses parent File (Directory_at first second) len = takes_none uses
+  takes_kind uses parent Dir body len = takes_none uses
+  takes_kind uses parent Super body len = takes_none uses
 
-behind_len : (uses : List BlockUse) (home : Home) (f : Fate) → length (uses_behind uses home f) ≡ length uses
-behind_len uses home (In_chain head blocks size) = settled_len uses head (use_of.Head home size) blocks
-behind_len uses home _ = refl
+behind_len : (uses : List BlockUse) (parent : Parent) (f : Fate) → length (uses_behind uses parent f) ≡ length uses
+behind_len uses parent (In_chain head blocks size) = settled_len uses head (use_of.Head parent size) blocks
+behind_len uses parent _ = refl
 
 module _ (d : Disk) (disk : IsDisk d) (differs : ChainsDiffer) where
-  takes_entry : (uses : List BlockUse) (home : Home) (e : StoredEntry) → length uses ≡ d.count
-      → TakesBlocks uses (entry_uses d uses home e) (fate_blocks (fate d uses e))
-  takes_entry uses home e len = takes_kind d disk differs uses home e.kind e.body len
+  takes_entry : (uses : List BlockUse) (parent : Parent) (e : StoredEntry) → length uses ≡ d.count
+      → TakesBlocks uses (entry_uses d uses parent e) (fate_blocks (fate d uses e))
+  takes_entry uses parent e len = takes_kind d disk differs uses parent e.kind e.body len
 
-  entry_len : (uses : List BlockUse) (home : Home) (e : StoredEntry) → length uses ≡ d.count → length (entry_uses d uses home e) ≡ d.count
-  entry_len uses home e len = behind_len uses home (fate d uses e) ∙ len
+  entry_len : (uses : List BlockUse) (parent : Parent) (e : StoredEntry) → length uses ≡ d.count → length (entry_uses d uses parent e) ≡ d.count
+  entry_len uses parent e len = behind_len uses parent (fate d uses e) ∙ len
 
   takes_entries : (uses : List BlockUse) (area call index : ℕ) (es : List StoredEntry) → length uses ≡ d.count
       → TakesBlocks uses (entries_uses d uses area call index es) (entries_blocks d uses area call index es)
   takes_entries uses area call index [] len = takes_none uses
   takes_entries uses area call index (e ∷ es) len =
-      let home : Home = home_of area call index in
-      let next : List BlockUse = entry_uses d uses home e in
+      let parent : Parent = parent_of area call index in
+      let next : List BlockUse = entry_uses d uses parent e in
       takes_then uses next (entries_uses d next area call (index + 1) es) (fate_blocks (fate d uses e))
-      (entries_blocks d next area call (index + 1) es) (takes_entry uses home e len)
-      (takes_entries next area call (index + 1) es (entry_len uses home e len))
+      (entries_blocks d next area call (index + 1) es) (takes_entry uses parent e len)
+      (takes_entries next area call (index + 1) es (entry_len uses parent e len))
 
   entries_len : (uses : List BlockUse) (area call index : ℕ) (es : List StoredEntry) → length uses ≡ d.count
       → length (entries_uses d uses area call index es) ≡ d.count
   entries_len uses area call index [] len = len
   entries_len uses area call index (e ∷ es) len =
-      entries_len (entry_uses d uses (home_of area call index) e) area call (index + 1) es (entry_len uses (home_of area call index) e len)
+      entries_len (entry_uses d uses (parent_of area call index) e) area call (index + 1) es (entry_len uses (parent_of area call index) e len)
 
   takes_found : (uses : List BlockUse) (area call : ℕ) (f : Found) → length uses ≡ d.count
       → TakesBlocks uses (found_uses d uses area call f) (found_blocks d uses area call f)

@@ -8,7 +8,7 @@ use Rattle.lfs_host.specs.NewFolder.{Made, Makes}
 use Rattle.lfs_meta.specs.Body.{Pair}
 use Rattle.lfs_meta.specs.Entry.{StoredEntry}
 use Rattle.lfs_meta.specs.Part.{StoredPart}
-use Rattle.lfs_salvage.specs.AreaMade.{call_made, calls_made, calls_unsaved, calls_uses, entries_made, entries_unsaved, entries_uses, entry_made, entry_uses, folder_made, folder_of, found_made, found_unsaved, found_uses, home_of}
+use Rattle.lfs_salvage.specs.AreaMade.{call_made, calls_made, calls_unsaved, calls_uses, entries_made, entries_unsaved, entries_uses, entry_made, entry_uses, folder_made, folder_of, found_made, found_unsaved, found_uses, parent_of}
 use Rattle.lfs_salvage.specs.Fate.{fate}
 use Rattle.lfs_salvage.specs.Folder.{folder_at, way_at}
 use Rattle.lfs_salvage.specs.Numbered.{Numbered}
@@ -33,85 +33,85 @@ abbrev pub plan_then : List Made → List Unsaved → Plan → Plan
 plan_then made told rest = record { made = made ++ rest.made; uses = rest.uses; unsaved = told ++ rest.unsaved }
 
 -- the first of a plan is done, and the rest is left
-pub record IsUnderWay (old now : Option (List Made)) (before told : List Unsaved) (left whole : Plan) : Type 0 where
-  pub way : IsOnWay old now left.made whole.made
-  pub uses : left.uses ≡ whole.uses
-  pub unsaved : told ++ left.unsaved ≡ before ++ whole.unsaved
+pub record IsUnderWay (old now : Option (List Made)) (before told : List Unsaved) (left complete : Plan) : Type 0 where
+  pub way : IsOnWay old now left.made complete.made
+  pub uses : left.uses ≡ complete.uses
+  pub unsaved : told ++ left.unsaved ≡ before ++ complete.unsaved
 
-pub begun : (old : Option (List Made)) (before : List Unsaved) (whole : Plan) → IsUnderWay old old before before whole whole
-begun old before whole = record { way = on_way old whole.made; uses = refl; unsaved = refl }
+pub begun : (old : Option (List Made)) (before : List Unsaved) (complete : Plan) → IsUnderWay old old before before complete complete
+begun old before complete = record { way = on_way old complete.made; uses = refl; unsaved = refl }
 
 -- one more is done
-pub done_more : (old mid new : Option (List Made)) (before told more here' : List Unsaved) (here : List Made) (rest whole : Plan)
-    → IsUnderWay old mid before told (plan_then here here' rest) whole → Makes mid new here → more ≡ told ++ here'
-    → IsUnderWay old new before more rest whole
-done_more old mid new before told more here' here rest whole h made is = record {
-  way = way_more old mid here rest.made whole.made h.way new made;
+pub done_more : (old mid new : Option (List Made)) (before told more here' : List Unsaved) (here : List Made) (rest complete : Plan)
+    → IsUnderWay old mid before told (plan_then here here' rest) complete → Makes mid new here → more ≡ told ++ here'
+    → IsUnderWay old new before more rest complete
+done_more old mid new before told more here' here rest complete h made is = record {
+  way = way_more old mid here rest.made complete.made h.way new made;
   uses = h.uses;
   unsaved = ap (λ (xs : List Unsaved). xs ++ rest.unsaved) is ∙ append_assoc told here' rest.unsaved ∙ h.unsaved;
 }
 
 -- or it ends at what comes next
-stopped : (old mid new : Option (List Made)) (before told here' : List Unsaved) (here : List Made) (rest whole : Plan)
-    → IsUnderWay old mid before told (plan_then here here' rest) whole → (fault : ExtractFault) → Stops fault mid new here
-    → Stops fault old new whole.made
-stopped old mid new before told here' here rest whole h fault stop = stops old mid here rest.made whole.made h.way fault new stop
+stopped : (old mid new : Option (List Made)) (before told here' : List Unsaved) (here : List Made) (rest complete : Plan)
+    → IsUnderWay old mid before told (plan_then here here' rest) complete → (fault : ExtractFault) → Stops fault mid new here
+    → Stops fault old new complete.made
+stopped old mid new before told here' here rest complete h fault stop = stops old mid here rest.made complete.made h.way fault new stop
 
 -- ---- the words that have numbers behind them
 
 -- some is done, whichever words of what is left will have numbers behind them; of what is done these have
-pub record IsDoing {N : Type 0} (old now : Option (List Made)) (before told : List Unsaved) (left whole : List N → Plan) : Type 0 where
+pub record IsDoing {N : Type 0} (old now : Option (List Made)) (before told : List Unsaved) (left complete : List N → Plan) : Type 0 where
   pub numbered : List N
-  pub doing : (rest : List N) → IsUnderWay old now before told (left rest) (whole (numbered ++ rest))
+  pub doing : (rest : List N) → IsUnderWay old now before told (left rest) (complete (numbered ++ rest))
 
-pub nothing_done : {N : Type 0} (old : Option (List Made)) (before : List Unsaved) (whole : List N → Plan)
-    → IsDoing old old before before whole whole
-nothing_done old before whole = record { numbered = []; doing = λ rest. begun old before (whole rest) }
+pub nothing_done : {N : Type 0} (old : Option (List Made)) (before : List Unsaved) (complete : List N → Plan)
+    → IsDoing old old before before complete complete
+nothing_done old before complete = record { numbered = []; doing = λ rest. begun old before (complete rest) }
 
-module _ {N : Type 0} (old mid : Option (List Made)) (before told : List Unsaved) (left whole : List N → Plan)
-    (h : IsDoing old mid before told left whole) (n : N) (here : List Made) (here' : List Unsaved) (next : List N → Plan)
+module _ {N : Type 0} (old mid : Option (List Made)) (before told : List Unsaved) (left complete : List N → Plan)
+    (h : IsDoing old mid before told left complete) (n : N) (here : List Made) (here' : List Unsaved) (next : List N → Plan)
     (is : (rest : List N) → left (n ∷ rest) ≡ plan_then here here' (next rest)) where
-  come_to : (rest : List N) → IsUnderWay old mid before told (plan_then here here' (next rest)) (whole ((h.numbered ++ n ∷ []) ++ rest))
+  come_to : (rest : List N) → IsUnderWay old mid before told (plan_then here here' (next rest)) (complete ((h.numbered ++ n ∷ []) ++ rest))
   come_to rest =
-      subst (λ (ns : List N). IsUnderWay old mid before told (plan_then here here' (next rest)) (whole ns))
+      subst (λ (ns : List N). IsUnderWay old mid before told (plan_then here here' (next rest)) (complete ns))
       (sym (append_assoc h.numbered (n ∷ []) rest))
-      (subst (λ (p : Plan). IsUnderWay old mid before told p (whole (h.numbered ++ n ∷ rest))) (is rest) (h.doing (n ∷ rest)))
+      (subst (λ (p : Plan). IsUnderWay old mid before told p (complete (h.numbered ++ n ∷ rest))) (is rest) (h.doing (n ∷ rest)))
 
   -- one more is done
   pub doing_more : (new : Option (List Made)) (more : List Unsaved) → Makes mid new here → more ≡ told ++ here'
-      → IsDoing old new before more next whole
+      → IsDoing old new before more next complete
   doing_more new more made tells = record {
     numbered = h.numbered ++ n ∷ [];
-    doing = λ rest. done_more old mid new before told more here' here (next rest) (whole ((h.numbered ++ n ∷ []) ++ rest)) (come_to rest)
+    doing = λ rest. done_more old mid new before told more here' here (next rest) (complete ((h.numbered ++ n ∷ []) ++ rest)) (come_to rest)
         made tells;
   }
 
   -- or it ends there
   pub doing_stops : (new : Option (List Made)) (fault : ExtractFault) → Stops fault mid new here
-      → (numbered : List N) × Stops fault old new (whole numbered).made
+      → (numbered : List N) × Stops fault old new (complete numbered).made
   doing_stops new fault stop = (
     (h.numbered ++ n ∷ []) ++ [],
-    stopped old mid new before told here' here (next []) (whole ((h.numbered ++ n ∷ []) ++ [])) (come_to []) fault stop,
+    stopped old mid new before told here' here (next []) (complete ((h.numbered ++ n ∷ []) ++ [])) (come_to []) fault stop,
   )
 
 -- or where memory is refused
-pub doing_first : {N : Type 0} (old now : Option (List Made)) (before told : List Unsaved) (left whole : List N → Plan)
-    → IsDoing old now before told left whole → (numbered : List N) × MakesFirst old now (whole numbered).made
-doing_first old now before told left whole h =
+pub doing_first : {N : Type 0} (old now : Option (List Made)) (before told : List Unsaved) (left complete : List N → Plan)
+    → IsDoing old now before told left complete → (numbered : List N) × MakesFirst old now (complete numbered).made
+doing_first old now before told left complete h =
     let doing = h.doing [] in
-    (h.numbered ++ [], way_stops old now (left []).made (whole (h.numbered ++ [])).made doing.way)
+    (h.numbered ++ [], way_stops old now (left []).made (complete (h.numbered ++ [])).made doing.way)
 
 -- all is done
-module _ {N : Type 0} (old new : Option (List Made)) (before told : List Unsaved) (left whole : List N → Plan)
-    (none : (left []).made ≡ []) (nothing : (left []).unsaved ≡ []) (h : IsDoing old new before told left whole) where
-  pub all_made : (numbered : List N) × Makes old new (whole numbered).made
+module _ {N : Type 0} (old new : Option (List Made)) (before told : List Unsaved) (left complete : List N → Plan)
+    (none : (left []).made ≡ []) (nothing : (left []).unsaved ≡ []) (h : IsDoing old new before told left complete) where
+  pub all_made : (numbered : List N) × Makes old new (complete numbered).made
   all_made = (
     h.numbered ++ [],
-    all_way old new (whole (h.numbered ++ [])).made
-        (subst (λ (xs : List Made). IsOnWay old new xs (whole (h.numbered ++ [])).made) none (h.doing []).way),
+    all_way old new (complete (h.numbered ++ [])).made
+        (subst (λ (xs : List Made). IsOnWay old new xs (complete (h.numbered ++ [])).made) none (h.doing []).way),
   )
 
-  pub all_told : told ≡ before ++ (whole (h.numbered ++ [])).unsaved
+  pub all_told : told ≡ before ++ (complete (h.numbered ++ [])).unsaved
   all_told =
       sym (append-nil told) ∙ ap (λ (xs : List Unsaved). told ++ xs) (sym nothing) ∙ (h.doing []).unsaved
 
@@ -128,12 +128,12 @@ entries_plan d folder block uses area call index es numbered = record {
 pub entries_more : (d : Disk) (folder : List ℕ) (block : ℕ) (uses : List BlockUse) (area call i : ℕ) (es : List StoredEntry)
     (e : StoredEntry) (n : Bool) (rest : List Bool) → i < length es → e ≡ get_or es i e
     → entries_plan d folder block uses area call i (drop i es) (n ∷ rest)
-    ≡ plan_then (entry_made d folder n block i uses e) (unsaved (home_of area call i) (fate d uses e))
-    (entries_plan d folder block (entry_uses d uses (home_of area call i) e) area call (i + 1) (drop (i + 1) es) rest)
+    ≡ plan_then (entry_made d folder n block i uses e) (unsaved (parent_of area call i) (fate d uses e))
+    (entries_plan d folder block (entry_uses d uses (parent_of area call i) e) area call (i + 1) (drop (i + 1) es) rest)
 entries_more d folder block uses area call i es e n rest within is =
     at_drop_more (λ (xs : List StoredEntry). entries_plan d folder block uses area call i xs (n ∷ rest)) es i e within
-    ∙ ap (λ (x : StoredEntry). plan_then (entry_made d folder n block i uses x) (unsaved (home_of area call i) (fate d uses x))
-    (entries_plan d folder block (entry_uses d uses (home_of area call i) x) area call (i + 1) (drop (i + 1) es) rest)) (sym is)
+    ∙ ap (λ (x : StoredEntry). plan_then (entry_made d folder n block i uses x) (unsaved (parent_of area call i) (fate d uses x))
+    (entries_plan d folder block (entry_uses d uses (parent_of area call i) x) area call (i + 1) (drop (i + 1) es) rest)) (sym is)
 
 -- ---- calls
 

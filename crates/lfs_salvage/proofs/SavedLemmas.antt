@@ -57,9 +57,9 @@ pub survey_is_front : (areas : List Area) (root : Area) (later : List Area) (fro
 survey_is_front areas root later front all lacks = ap (λ (f : Front). front_behind_all f later) lacks ∙ sym (ap survey_front all)
 
 -- one list behind another one, of files that aren't saved
-pub told_then : (before told new first second whole : List Unsaved) → told ≡ before ++ first → new ≡ told ++ second
-    → first ++ second ≡ whole → new ≡ before ++ whole
-told_then before told new first second whole one other all =
+pub told_then : (before told new first second complete : List Unsaved) → told ≡ before ++ first → new ≡ told ++ second
+    → first ++ second ≡ complete → new ≡ before ++ complete
+told_then before told new first second complete one other all =
     other ∙ ap (λ (us : List Unsaved). us ++ second) one ∙ append_assoc before first second ∙ ap (λ (us : List Unsaved). before ++ us) all
 
 -- ---- the areas of the survey are saved
@@ -118,21 +118,21 @@ module _ (d : Disk) (dir lost : List ℕ) (areas lone marked slice : List Area) 
       ∙ ap (λ (t : List BlockUse). all_lost_made d dir (lost_of dir areas) (survey_front areas) (length areas) others t slice) between_is
       ∙ ap (all_lost_made d dir (lost_of dir areas) (survey_front areas) (length areas) others (uses_between d areas lone)) are
 
-  pub whole_saves : (others : List (List Numbered)) (result : Result (Unit {0}) ExtractFault) (new : Option (List Made))
+  pub complete_saves : (others : List (List Numbered)) (result : Result (Unit {0}) ExtractFault) (new : Option (List Made))
       → Saves result mid new (all_lost_made d dir lost front first others between slice)
       → Saves result old new (image_made d dir h.numbered others areas lone)
-  whole_saves others result new saves =
+  complete_saves others result new saves =
       then_saves result old mid new (survey_part d dir h.numbered areas) (left_made others) h.made
       (subst (λ (m : List Made). Saves result mid new m) (left_is others) saves)
 
-  pub whole_used : (after : List BlockUse) → after ≡ all_lost_uses d first between slice → after ≡ image_uses d areas lone
-  whole_used after used =
+  pub complete_used : (after : List BlockUse) → after ≡ all_lost_uses d first between slice → after ≡ image_uses d areas lone
+  complete_used after used =
       used ∙ ap (λ (n : ℕ). all_lost_uses d n between slice) counted
       ∙ ap (λ (t : List BlockUse). all_lost_uses d (length areas) t slice) between_is
       ∙ ap (all_lost_uses d (length areas) (uses_between d areas lone)) are
 
-  pub whole_unsaved : (more : List Unsaved) → more ≡ told ++ all_lost_unsaved d first between slice → more ≡ image_unsaved d areas lone
-  whole_unsaved more unsaved =
+  pub complete_unsaved : (more : List Unsaved) → more ≡ told ++ all_lost_unsaved d first between slice → more ≡ image_unsaved d areas lone
+  complete_unsaved more unsaved =
       unsaved ∙ ap (λ (us : List Unsaved). us ++ all_lost_unsaved d first between slice) h.unsaved
       ∙ ap (λ (us : List Unsaved). survey_unsaved d (uses_first d areas) areas ++ us)
       (ap (λ (n : ℕ). all_lost_unsaved d n between slice) counted
@@ -161,5 +161,5 @@ module _ (d e : Disk) (dir : List ℕ) (old new : Option (List Made)) (survey : 
   stops_left lone others left HostName stop = stop
 
 -- all is made, and then memory is refused
-pub all_first : (old new : Option (List Made)) (whole : List Made) → Makes old new whole → MakesFirst old new whole
-all_first old new whole made = record { front = whole; rest = []; split = append-nil whole; made = made }
+pub all_first : (old new : Option (List Made)) (complete : List Made) → Makes old new complete → MakesFirst old new complete
+all_first old new complete made = record { front = complete; rest = []; split = append-nil complete; made = made }

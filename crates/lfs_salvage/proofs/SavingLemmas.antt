@@ -12,16 +12,16 @@ use Rattle.lfs_salvage.specs.Saving.{MakesFirst, Saves, Stops}
 
 -- ---- in front of the rest
 
-module _ (old mid : Option (List Made)) (here later whole : List Made) (h : IsOnWay old mid (here ++ later) whole) where
+module _ (old mid : Option (List Made)) (here later complete : List Made) (h : IsOnWay old mid (here ++ later) complete) where
   -- one more is made
-  pub way_more : (new : Option (List Made)) → Makes mid new here → IsOnWay old new later whole
+  pub way_more : (new : Option (List Made)) → Makes mid new here → IsOnWay old new later complete
   way_more new made = record {
     front = h.front ++ here;
     made = makes_then old mid new h.front here h.made made;
     all = append_assoc h.front here later ∙ h.all;
   }
 
-  front_more : (new : Option (List Made)) → MakesFront mid new here → MakesFront old new whole
+  front_more : (new : Option (List Made)) → MakesFront mid new here → MakesFront old new complete
   front_more new f = record {
     front = h.front ++ f.front;
     next = f.next;
@@ -32,7 +32,7 @@ module _ (old mid : Option (List Made)) (here later whole : List Made) (h : IsOn
     made = makes_then old mid new h.front f.front h.made f.made;
   }
 
-  first_more : (new : Option (List Made)) → MakesFirst mid new here → MakesFirst old new whole
+  first_more : (new : Option (List Made)) → MakesFirst mid new here → MakesFirst old new complete
   first_more new f = record {
     front = h.front ++ f.front;
     rest = f.rest ++ later;
@@ -43,17 +43,17 @@ module _ (old mid : Option (List Made)) (here later whole : List Made) (h : IsOn
   }
 
   -- or it ends
-  pub stops : (fault : ExtractFault) (new : Option (List Made)) → Stops fault mid new here → Stops fault old new whole
+  pub stops : (fault : ExtractFault) (new : Option (List Made)) → Stops fault mid new here → Stops fault old new complete
   stops CannotWrite new f = front_more new f
   stops Memory new f = first_more new f
   stops HostName new f = f
 
 -- memory is refused before anything more is made
-pub way_stops : (old new : Option (List Made)) (rest whole : List Made) → IsOnWay old new rest whole → MakesFirst old new whole
-way_stops old new rest whole h = record { front = h.front; rest = rest; split = h.all; made = h.made }
+pub way_stops : (old new : Option (List Made)) (rest complete : List Made) → IsOnWay old new rest complete → MakesFirst old new complete
+way_stops old new rest complete h = record { front = h.front; rest = rest; split = h.all; made = h.made }
 
-pub none_first : (old : Option (List Made)) (whole : List Made) → MakesFirst old old whole
-none_first old whole = way_stops old old whole whole (on_way old whole)
+pub none_first : (old : Option (List Made)) (complete : List Made) → MakesFirst old old complete
+none_first old complete = way_stops old old complete complete (on_way old complete)
 
 -- the host refuses one
 pub none_front : (old new : Option (List Made)) (one : Made) → new ≡ old → MakesFront old new (one ∷ [])

@@ -18,7 +18,7 @@ use Rattle.lfs_salvage.specs.Fate.{In_chain, Elsewhere, Lost, chain_fate, head_f
 use Rattle.lfs_salvage.specs.Shown.{IsLostFor, LostHaveACause, SavedAreShown, Shows}
 use Rattle.lfs_salvage.specs.declared.block_use.BlockUse.{BlockUse}
 use Rattle.lfs_salvage.specs.declared.block_use.BlockUse.TheVariants as use_of
-use Rattle.lfs_salvage.specs.declared.home.Home.{Home}
+use Rattle.lfs_salvage.specs.declared.parent.Parent.{Parent}
 
 -- ---- what is saved
 
@@ -33,17 +33,17 @@ module _ (d : Disk) (uses : List BlockUse) (head size : ℕ) where
   saved_chain None bytes is saved = absurd (none-some bytes saved)
   saved_chain (Some blocks) bytes is saved = saved_any (list_any (is_used uses) blocks) blocks bytes is saved
 
-  saved_same : (t : Bool) (home : Home) (bytes : List ℕ)
-      → saved_bytes d (Chain head size) (if t then Elsewhere home else Lost BlockTwice) ≡ Some bytes → Shows d (Chain head size) bytes
-  saved_same true home bytes saved = absurd (none-some bytes saved)
-  saved_same false home bytes saved = absurd (none-some bytes saved)
+  saved_same : (t : Bool) (parent : Parent) (bytes : List ℕ)
+      → saved_bytes d (Chain head size) (if t then Elsewhere parent else Lost BlockTwice) ≡ Some bytes → Shows d (Chain head size) bytes
+  saved_same true parent bytes saved = absurd (none-some bytes saved)
+  saved_same false parent bytes saved = absurd (none-some bytes saved)
 
   saved_head : (u : BlockUse) (bytes : List ℕ) → saved_bytes d (Chain head size) (head_fate d uses head size u) ≡ Some bytes
       → Shows d (Chain head size) bytes
   saved_head use_of.Free bytes saved = saved_chain (chain_of d head size) bytes refl saved
   saved_head (use_of.Part area call) bytes saved = absurd (none-some bytes saved)
   saved_head use_of.Chain bytes saved = absurd (none-some bytes saved)
-  saved_head (use_of.Head home long) bytes saved = saved_same (long == size) home bytes saved
+  saved_head (use_of.Head parent long) bytes saved = saved_same (long == size) parent bytes saved
 
   saved_size : EmptyIsFound → (t : Bool) (bytes : List ℕ) → (size == 0) ≡ t
       → saved_bytes d (Chain head size) (if t then In_chain head [] size else head_fate d uses head size (slice_index_or uses head use_of.Free))
@@ -110,9 +110,9 @@ module _ (d : Disk) (uses : List BlockUse) (head size : ℕ) (fault : MountFault
   lost_used : is_used uses head ≡ true → Lost BlockTwice ≡ Lost fault → Cause
   lost_used used lost = subst (λ (f : MountFault). IsLostFor d uses f (Chain head size)) (same_loss BlockTwice fault lost) (inl used)
 
-  lost_same : (t : Bool) (home : Home) → is_used uses head ≡ true → (if t then Elsewhere home else Lost BlockTwice) ≡ Lost fault → Cause
-  lost_same true home used lost = absurd (cc)
-  lost_same false home used lost = lost_used used lost
+  lost_same : (t : Bool) (parent : Parent) → is_used uses head ≡ true → (if t then Elsewhere parent else Lost BlockTwice) ≡ Lost fault → Cause
+  lost_same true parent used lost = absurd (cc)
+  lost_same false parent used lost = lost_used used lost
 
   used_by : (u : BlockUse) → slice_index_or uses head use_of.Free ≡ u → is_free u ≡ false → is_used uses head ≡ true
   used_by u is taken = ap (λ (x : BlockUse). not (is_free x)) is ∙ ap not taken
@@ -121,7 +121,7 @@ module _ (d : Disk) (uses : List BlockUse) (head size : ℕ) (fault : MountFault
   lost_head use_of.Free is lost = lost_chain (chain_of d head size) refl lost
   lost_head (use_of.Part area call) is lost = lost_used (used_by (use_of.Part area call) is refl) lost
   lost_head use_of.Chain is lost = lost_used (used_by use_of.Chain is refl) lost
-  lost_head (use_of.Head home long) is lost = lost_same (long == size) home (used_by (use_of.Head home long) is refl) lost
+  lost_head (use_of.Head parent long) is lost = lost_same (long == size) parent (used_by (use_of.Head parent long) is refl) lost
 
   lost_size : (t : Bool)
       → (if t then In_chain head [] size else head_fate d uses head size (slice_index_or uses head use_of.Free)) ≡ Lost fault → Cause

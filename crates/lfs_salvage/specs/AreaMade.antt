@@ -10,7 +10,7 @@ use Rattle.lfs_salvage.specs.Numbered.{Numbered, first_call, first_entry, later_
 use Rattle.lfs_salvage.specs.Unsaved.{unsaved}
 use Rattle.lfs_salvage.specs.Word.{entry_word}
 use Rattle.lfs_salvage.specs.declared.block_use.BlockUse.{BlockUse}
-use Rattle.lfs_salvage.specs.declared.home.Home.{Home}
+use Rattle.lfs_salvage.specs.declared.parent.Parent.{Parent}
 use Rattle.lfs_salvage.specs.declared.unsaved.Unsaved.{Unsaved}
 use Rattle.lfs_survey.specs.declared.area.Area.{Area}
 use Rattle.lfs_survey.specs.declared.found.Found.{Found}
@@ -20,8 +20,8 @@ use Rattle.lfs_survey.specs.declared.way.Way.TheVariants.{Start, Entry, Next}
 
 -- ---- of entries
 
-abbrev pub home_of : ℕ → ℕ → ℕ → Home
-home_of area call entry = record { area = area; call = call; entry = entry }
+abbrev pub parent_of : ℕ → ℕ → ℕ → Parent
+parent_of area call entry = record { area = area; call = call; entry = entry }
 
 -- a file with these bytes, where there are some
 abbrev pub file_made : List ℕ → Option (List ℕ) → List Made
@@ -34,26 +34,26 @@ entry_made d folder numbered block index uses e =
     file_made (name_in folder (entry_word numbered block index e.name)) (saved_bytes d e.body (fate d uses e))
 
 -- what blocks are used for behind it
-abbrev pub entry_uses : Disk → List BlockUse → Home → StoredEntry → List BlockUse
-entry_uses d uses home e = uses_behind uses home (fate d uses e)
+abbrev pub entry_uses : Disk → List BlockUse → Parent → StoredEntry → List BlockUse
+entry_uses d uses parent e = uses_behind uses parent (fate d uses e)
 
 -- those of entries, of which the first has this number: each behind the ones before it
 abbrev pub entries_made : Disk → List ℕ → List Bool → ℕ → List BlockUse → ℕ → ℕ → ℕ → List StoredEntry → List Made
 entries_made d folder numbered block uses area call index [] = []
 entries_made d folder numbered block uses area call index (e ∷ es) =
     entry_made d folder (first_entry numbered) block index uses e
-    ++ entries_made d folder (later_entries numbered) block (entry_uses d uses (home_of area call index) e) area call (index + 1) es
+    ++ entries_made d folder (later_entries numbered) block (entry_uses d uses (parent_of area call index) e) area call (index + 1) es
 
 abbrev pub entries_uses : Disk → List BlockUse → ℕ → ℕ → ℕ → List StoredEntry → List BlockUse
 entries_uses d uses area call index [] = uses
 entries_uses d uses area call index (e ∷ es) =
-    entries_uses d (entry_uses d uses (home_of area call index) e) area call (index + 1) es
+    entries_uses d (entry_uses d uses (parent_of area call index) e) area call (index + 1) es
 
 abbrev pub entries_unsaved : Disk → List BlockUse → ℕ → ℕ → ℕ → List StoredEntry → List Unsaved
 entries_unsaved d uses area call index [] = []
 entries_unsaved d uses area call index (e ∷ es) =
-    unsaved (home_of area call index) (fate d uses e)
-    ++ entries_unsaved d (entry_uses d uses (home_of area call index) e) area call (index + 1) es
+    unsaved (parent_of area call index) (fate d uses e)
+    ++ entries_unsaved d (entry_uses d uses (parent_of area call index) e) area call (index + 1) es
 
 -- ---- of what is found
 

@@ -12,14 +12,14 @@ use Rattle.lfs_meta.specs.declared.kind.Kind.{Kind}
 use Rattle.lfs_meta.specs.declared.kind.Kind.TheVariants.{File, Dir, Super}
 use Rattle.lfs_salvage.specs.declared.block_use.BlockUse.{BlockUse}
 use Rattle.lfs_salvage.specs.declared.block_use.BlockUse.TheVariants as use_of
-use Rattle.lfs_salvage.specs.declared.home.Home.{Home}
+use Rattle.lfs_salvage.specs.declared.parent.Parent.{Parent}
 
 -- a file that is saved, of the bytes in its entry or of a chain; one that is saved already, elsewhere; what is no file; or a file that isn't
 -- saved, for this
 pub data Fate : Type 0 where
   In_entry : Fate
   In_chain : (head : ℕ) (blocks : List ℕ) (size : ℕ) → Fate
-  Elsewhere : (home : Home) → Fate
+  Elsewhere : (parent : Parent) → Fate
   Passed : Fate
   Lost : (fault : MountFault) → Fate
 
@@ -29,7 +29,7 @@ abbrev pub is_free : BlockUse → Bool
 is_free use_of.Free = true
 is_free (use_of.Part area call) = false
 is_free use_of.Chain = false
-is_free (use_of.Head home size) = false
+is_free (use_of.Head parent size) = false
 
 -- whether a block is in use
 abbrev pub is_used : List BlockUse → ℕ → Bool
@@ -47,7 +47,7 @@ abbrev pub head_fate : Disk → List BlockUse → ℕ → ℕ → BlockUse → F
 head_fate d uses head size use_of.Free = chain_fate uses head size (chain_of d head size)
 head_fate d uses head size (use_of.Part area call) = Lost BlockTwice
 head_fate d uses head size use_of.Chain = Lost BlockTwice
-head_fate d uses head size (use_of.Head home long) = if long == size then Elsewhere home else Lost BlockTwice
+head_fate d uses head size (use_of.Head parent long) = if long == size then Elsewhere parent else Lost BlockTwice
 
 -- a file of no bytes has no blocks
 abbrev pub body_fate : Disk → List BlockUse → StoredBody → Fate
@@ -73,7 +73,7 @@ saved_bytes d (Inline bytes) In_entry = Some bytes
 saved_bytes d (Chain head size) In_entry = None
 saved_bytes d (Directory_at first second) In_entry = None
 saved_bytes d body (In_chain head blocks size) = Some (content d size blocks)
-saved_bytes d body (Elsewhere home) = None
+saved_bytes d body (Elsewhere parent) = None
 saved_bytes d body Passed = None
 saved_bytes d body (Lost fault) = None
 
@@ -88,17 +88,17 @@ settled uses head as_head [] = uses
 settled uses head as_head (b ∷ bs) = slice_set (chained uses (b ∷ bs)) head as_head
 
 -- what blocks are used for behind an entry that stands here
-abbrev pub uses_behind : List BlockUse → Home → Fate → List BlockUse
-uses_behind uses home In_entry = uses
-uses_behind uses home (In_chain head blocks size) = settled uses head (use_of.Head home size) blocks
-uses_behind uses home (Elsewhere other) = uses
-uses_behind uses home Passed = uses
-uses_behind uses home (Lost fault) = uses
+abbrev pub uses_behind : List BlockUse → Parent → Fate → List BlockUse
+uses_behind uses parent In_entry = uses
+uses_behind uses parent (In_chain head blocks size) = settled uses head (use_of.Head parent size) blocks
+uses_behind uses parent (Elsewhere other) = uses
+uses_behind uses parent Passed = uses
+uses_behind uses parent (Lost fault) = uses
 
 -- the blocks of a chain are the disk's, and no more than it has
 abbrev pub HasFileBlocks : Disk → Fate → Type 0
 HasFileBlocks d In_entry = Unit {0}
 HasFileBlocks d (In_chain head blocks size) = All (λ b. b < d.count) blocks × (length blocks ≤ d.count)
-HasFileBlocks d (Elsewhere home) = Unit {0}
+HasFileBlocks d (Elsewhere parent) = Unit {0}
 HasFileBlocks d Passed = Unit {0}
 HasFileBlocks d (Lost fault) = Unit {0}

@@ -6,6 +6,6 @@ use Rattle.lfs_salvage.specs.declared.file_body.FileBody.TheVariants as case
 abbrev pub fate_held : FileBody → Fate
 fate_held case.Inline = In_entry
 fate_held (case.Chain head blocks size) = In_chain head blocks.items size
-fate_held (case.Elsewhere home) = Elsewhere home
+fate_held (case.Elsewhere parent) = Elsewhere parent
 fate_held case.Passed = Passed
 fate_held (case.Lost fault) = Lost fault

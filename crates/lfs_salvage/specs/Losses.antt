@@ -35,7 +35,7 @@ abbrev pub is_saved_at : List Area → BlockUse → Pair → Bool
 is_saved_at areas use_of.Free pair = false
 is_saved_at areas (use_of.Part area call) pair = is_part_of (found_at (slice_get areas area) call) pair
 is_saved_at areas use_of.Chain pair = false
-is_saved_at areas (use_of.Head home size) pair = false
+is_saved_at areas (use_of.Head parent size) pair = false
 
 -- a pair is lost that isn't read, unless its part is saved under another name
 abbrev pub is_lost_for : MountFault → Bool → Bool
@@ -59,7 +59,7 @@ losses_from areas uses calls call (f ∷ fs) =
 -- a file isn't saved, under no name
 abbrev pub is_file_lost : Why → Bool
 is_file_lost (why.Fault fault) = true
-is_file_lost (why.Elsewhere home) = false
+is_file_lost (why.Elsewhere parent) = false
 
 -- something is lost: no part is found anywhere, or a pair is lost, or a file
 abbrev pub has_loss : Saved → Bool

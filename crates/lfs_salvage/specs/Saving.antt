@@ -6,18 +6,18 @@ use Rattle.lfs_extract.specs.declared.extract_fault.ExtractFault.TheVariants.{Me
 use Rattle.lfs_host.specs.NewFolder.{Made, Makes}
 
 -- those in front were made, perhaps all, and no other
-pub record MakesFirst (old new : Option (List Made)) (whole : List Made) : Type 0 where
+pub record MakesFirst (old new : Option (List Made)) (complete : List Made) : Type 0 where
   pub front : List Made
   pub rest : List Made
-  pub split : front ++ rest ≡ whole
+  pub split : front ++ rest ≡ complete
   pub made : Makes old new front
 
 -- what is made where the fault ends it: those in front of one that the host refuses, or those in front where memory is refused
 abbrev pub Stops : ExtractFault → Option (List Made) → Option (List Made) → List Made → Type 0
-Stops CannotWrite old new whole = MakesFront old new whole
-Stops Memory old new whole = MakesFirst old new whole
-Stops HostName old new whole = ⊥
+Stops CannotWrite old new complete = MakesFront old new complete
+Stops Memory old new complete = MakesFirst old new complete
+Stops HostName old new complete = ⊥
 
 -- all is made, or what is so far
 abbrev pub Saves : {T : Type 0} → Result T ExtractFault → Option (List Made) → Option (List Made) → List Made → Type 0
-Saves result old new whole = MatchResult result (λ _. Makes old new whole) (λ fault. Stops fault old new whole)
+Saves result old new complete = MatchResult result (λ _. Makes old new complete) (λ fault. Stops fault old new complete)

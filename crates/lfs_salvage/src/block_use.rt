@@ -1,10 +1,8 @@
 //! What a block is used for.
 
-use crate::home::Home;
+use crate::parent::Parent;
 
 /// What a block is used for, of all that is found and saved so far.
-///
-/// Source: own.
 #[derive(Clone, Copy, Debug, PartialEq, Eq)]
 pub enum BlockUse {
     /// Nothing.
@@ -14,14 +12,14 @@ pub enum BlockUse {
     /// The chain of a file that is saved.
     Chain,
     /// The same, as its last block: where the file stands, and how many bytes it has.
-    Head { home: Home, size: u32 },
+    Head { parent: Parent, size: u32 },
 }
 
 impl BlockUse {
     ghost use Rattle.std.specs.Prelude.{◌≡◌};
     ghost use Rattle.lfs_salvage.specs.Fate.{is_free};
 
-    /// Whether it is none. Takes no memory.
+    /// Whether it is none.
     pub(crate) fn is_free(self) -> bool
         ensures { result ≡ is_free self }
     {

@@ -1,11 +1,9 @@
 //! What becomes of an entry.
 
-use crate::home::Home;
+use crate::parent::Parent;
 use lfs_block::MountFault;
 
 /// What becomes of an entry of a part that is found.
-///
-/// Source: own.
 #[derive(Drop)]
 pub(crate) enum FileBody {
     /// A file is saved, of the bytes in its entry.
@@ -17,7 +15,7 @@ pub(crate) enum FileBody {
         size: u32,
     },
     /// A file that is saved already, under another name.
-    Elsewhere(Home),
+    Elsewhere(Parent),
     /// It is no file.
     Passed,
     /// A file that isn't saved, for this.

@@ -1,12 +1,11 @@
 //! What is told of files that aren't saved where they are named.
 
 use crate::block_use::BlockUse;
-use crate::home::Home;
+use crate::parent::Parent;
 use crate::salvage::Salvage;
 use crate::unsaved::{Unsaved, Why};
 use lfs_block::{Image, MountFault};
-use lfs_place::{Lines, PlacedPath, chain_line_at, chain_of};
-use lfs_survey::{EntryPlace, Place, Survey, chain_at};
+use lfs_survey::{EntryPlace, Lines, Place, PlacedPath, Survey, chain_at, chain_line_at, chain_of};
 use std::alloc::{AllocError, Global};
 
 /// Adds a line for each file that is lost.
@@ -19,12 +18,12 @@ pub(crate) fn add_lost_files(
 ) -> Result<(), AllocError> {
     for unsaved in salvage.unsaved.iter() {
         if let Unsaved {
-            home,
+            parent,
             why: Why::Fault(fault),
         } = *unsaved
         {
             if lines.takes_one() {
-                let place = place_of(home);
+                let place = place_of(parent);
                 lines.add(file_loss(alloc, image, survey, &salvage.uses, place, fault)?)?;
             }
         }
@@ -41,12 +40,12 @@ pub(crate) fn add_other_files(
 ) -> Result<(), AllocError> {
     for unsaved in salvage.unsaved.iter() {
         if let Unsaved {
-            home,
+            parent,
             why: Why::Elsewhere(other),
         } = *unsaved
         {
             if lines.takes_one() {
-                lines.add(other_file(alloc, survey, place_of(home), place_of(other))?)?;
+                lines.add(other_file(alloc, survey, place_of(parent), place_of(other))?)?;
             }
         }
     }
@@ -54,14 +53,14 @@ pub(crate) fn add_other_files(
 }
 
 /// Where an entry is.
-fn place_of(home: Home) -> EntryPlace {
+fn place_of(parent: Parent) -> EntryPlace {
     let at = Place {
-        area: home.area,
-        call: home.call,
+        area: parent.area,
+        call: parent.call,
     };
     EntryPlace {
         at,
-        entry: home.entry,
+        entry: parent.entry,
     }
 }
 

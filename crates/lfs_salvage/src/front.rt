@@ -1,8 +1,6 @@
 //! Which folders lack in front of what no path leads to.
 
 /// Which folders lack in front of what no path leads to.
-///
-/// Source: own.
 #[derive(Clone, Copy, Debug, PartialEq, Eq)]
 pub(crate) enum Front {
     /// That of the image and that for what no path leads to.

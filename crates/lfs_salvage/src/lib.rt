@@ -7,12 +7,12 @@ mod file_body;
 mod file_losses;
 mod folders;
 mod front;
-mod home;
 mod laws;
 mod losses;
 mod lost;
 mod naming;
 mod pair_losses;
+mod parent;
 mod reading;
 mod salvage;
 mod saved;
@@ -25,13 +25,13 @@ mod unsaved;
 mod words;
 
 pub use block_use::BlockUse;
-pub use home::Home;
 pub use laws::{
     lost_files_have_a_cause, lost_words_are_new, parts_are_in_use, saved_chains_are_apart,
     saved_files_are_shown,
 };
 pub use losses::is_lost;
 pub use lost::lost_word;
+pub use parent::Parent;
 pub use salvage::Salvage;
 pub use saved::Saved;
 pub use saved_lines::salvage_lines;

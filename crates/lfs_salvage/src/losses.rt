@@ -55,9 +55,7 @@ fn is_lost_for(fault: MountFault, saved: bool) -> bool
     }
 }
 
-/// Whether what is found at a pair is a loss: it isn't read, and no part of it is saved under another name. Takes no memory.
-///
-/// Source: own.
+/// Whether what is found at a pair is a loss: it isn't read, and no part of it is saved under another name.
 pub fn is_lost(areas: &[Area], uses: &[BlockUse], pair: (u32, u32), found: &Found) -> bool
     ensures { result ≡ is_lost areas.now uses.now pair found.now }
 {
@@ -127,9 +125,7 @@ impl Saved {
     ghost use Rattle.std.specs.Prelude.{◌≡◌};
     ghost use Rattle.lfs_salvage.specs.Losses.{has_loss};
 
-    /// Whether something is lost: no part is found anywhere, or a pair or a file that is named isn't saved. Takes no memory.
-    ///
-    /// Source: own.
+    /// Whether something is lost: no part is found anywhere, or a pair or a file that is named isn't saved.
     pub fn has_loss(&self) -> bool
         ensures { result ≡ has_loss self.now }
     {

@@ -54,8 +54,6 @@ fn tildes_in(found: &[Found]) -> usize
 
 /// The name of the folder for what no path leads to, where this is found of the root's area: none of its names is that
 /// (`lost_words_are_new`). Takes memory.
-///
-/// Source: own.
 pub fn lost_word(alloc: Global, found: &[Found]) -> Result<String, AllocError>
     ensures { IfOk result (λ word. string_bytes word ≡ lost_word found.now) }
 {

@@ -3,8 +3,10 @@
 use crate::block_use::BlockUse;
 use crate::losses::is_lost;
 use lfs_block::MountFault;
-use lfs_place::{Lines, Owners, PlacedPath, blocks_at, pair_line, past_line, unread_line_at};
-use lfs_survey::{Found, Place, Survey, Way, call_at, found_at};
+use lfs_survey::{
+    Found, Lines, Owners, Place, PlacedPath, Survey, Way, blocks_at, call_at, found_at, pair_line,
+    past_line, unread_line_at,
+};
 use std::alloc::{AllocError, Global};
 
 /// Adds a line for each pair of an area that is lost.

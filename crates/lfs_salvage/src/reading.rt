@@ -11,7 +11,7 @@ ghost use Rattle.lfs_salvage.specs.declared.block_use.BlockUse.TheVariants.{Free
 
 use crate::block_use::BlockUse;
 use crate::file_body::FileBody;
-use crate::home::Home;
+use crate::parent::Parent;
 use lfs_block::{Blocks, MountFault};
 use lfs_file::{blocks_of_chains_differ, chain};
 use lfs_meta::{Body, Entry, Kind};
@@ -67,11 +67,11 @@ fn chain_body<B: Blocks>(
 }
 
 /// What becomes of a file of `size` bytes whose last block is that of a file of `long` bytes, which is saved.
-fn same_head(home: Home, long: u32, size: u32) -> FileBody
-    ensures { fate_held result ≡ (if long == size then Elsewhere home else Lost BlockTwice) }
+fn same_head(parent: Parent, long: u32, size: u32) -> FileBody
+    ensures { fate_held result ≡ (if long == size then Elsewhere parent else Lost BlockTwice) }
 {
     if long == size {
-        FileBody::Elsewhere(home)
+        FileBody::Elsewhere(parent)
     } else {
         FileBody::Lost(MountFault::BlockTwice)
     }
@@ -92,7 +92,7 @@ fn head_body<B: Blocks>(
         BlockUse::Free => chain_body(alloc, disk, uses, head, size),
         BlockUse::Part { .. } => Ok(FileBody::Lost(MountFault::BlockTwice)),
         BlockUse::Chain => Ok(FileBody::Lost(MountFault::BlockTwice)),
-        BlockUse::Head { home, size: long } => Ok(same_head(home, long, size)),
+        BlockUse::Head { parent, size: long } => Ok(same_head(parent, long, size)),
     }
 }
 
@@ -126,8 +126,6 @@ fn body_of<B: Blocks>(
 /// What becomes of an entry, where blocks are used so: a file is saved, of its bytes in the entry or of its chain; or it is saved already,
 /// where its last block is that of a file of as many bytes; or it is lost, with `BadSkipList` where it has no chain, and with `BlockTwice`
 /// where its last block, or another one of its chain, is in use. What is no file is passed over. Takes memory.
-///
-/// Source: own.
 pub(crate) fn file_of<B: Blocks>(
     alloc: Global,
     disk: &B,

@@ -2,14 +2,12 @@
 
 use crate::block_use::BlockUse;
 use crate::file_body::FileBody;
-use crate::home::Home;
+use crate::parent::Parent;
 use crate::unsaved::{Unsaved, Why};
 use lfs_survey::{Area, Found};
 use std::alloc::{AllocError, Global};
 
 /// What is known of what is saved of an image so far.
-///
-/// Source: own.
 #[derive(Drop)]
 pub struct Salvage {
     /// What each block is used for.
@@ -104,18 +102,25 @@ impl Salvage {
     }
 
     /// Marks the blocks of an entry that stands here, where its file is saved.
-    pub(crate) fn settle(&mut self, home: Home, body: &FileBody)
-        ensures uses { self.new.uses.items ≡ uses_behind self.old.uses.items home (fate_held body.now) }
+    pub(crate) fn settle(&mut self, parent: Parent, body: &FileBody)
+        ensures uses { self.new.uses.items ≡ uses_behind self.old.uses.items parent (fate_held body.now) }
         ensures unsaved { self.new.unsaved ≡ self.old.unsaved }
     {
         if let FileBody::Chain { head, blocks, size } = body {
-            self.settle_chain(*head, BlockUse::Head { home, size: *size }, blocks);
+            self.settle_chain(
+                *head,
+                BlockUse::Head {
+                    parent,
+                    size: *size,
+                },
+                blocks,
+            );
         }
     }
 
     /// Keeps an entry that stands here, where its file isn't saved, and why.
-    pub(crate) fn keep_unsaved(&mut self, home: Home, body: &FileBody) -> Result<(), AllocError>
-        ensures unsaved { OnOk result (self.new.unsaved.items ≡ self.old.unsaved.items ++ unsaved home (fate_held body.now)) }
+    pub(crate) fn keep_unsaved(&mut self, parent: Parent, body: &FileBody) -> Result<(), AllocError>
+        ensures unsaved { OnOk result (self.new.unsaved.items ≡ self.old.unsaved.items ++ unsaved parent (fate_held body.now)) }
         ensures uses { self.new.uses ≡ self.old.uses }
     {
         let why = match body {
@@ -125,7 +130,7 @@ impl Salvage {
             FileBody::Chain { .. } => return Ok(()),
             FileBody::Passed => return Ok(()),
         };
-        self.unsaved.push(Unsaved { home, why })?;
+        self.unsaved.push(Unsaved { parent, why })?;
         Ok(())
     }
 }

@@ -4,8 +4,6 @@ use crate::salvage::Salvage;
 use lfs_survey::Area;
 
 /// What is saved of an image.
-///
-/// Source: own.
 #[derive(Drop)]
 pub struct Saved {
     /// The areas that are found: the root's, those at which the thread goes on, and those of blocks by themselves.

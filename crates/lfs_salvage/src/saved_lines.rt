@@ -6,15 +6,12 @@ use crate::pair_losses::{add_lost_area, add_lost_pairs, add_other_pairs};
 use crate::salvage::Salvage;
 use crate::saved::Saved;
 use lfs_block::{Blocks, Image};
-use lfs_place::{Lines, Owners};
-use lfs_survey::Survey;
+use lfs_survey::{Lines, Owners, Survey};
 use std::alloc::{AllocError, Global};
 
 /// What is told of what is saved of an image: a line for each pair and each file that is lost, then one for each that is saved under
 /// another path, and for each area to which no path leads, where it is saved. Of either at most a hundred, and how many more there are.
 /// Takes memory.
-///
-/// Source: own.
 pub fn salvage_lines(
     alloc: Global,
     image: &Image,

@@ -74,8 +74,6 @@ fn save_found<B: Blocks, F: NewFolder>(
 /// `CannotWrite` where the host refuses to make a folder or a file, or to write to one: then all before it is made, and a file that was
 /// begun may be left with a beginning of its contents. `Memory` says only that a growth was refused, and some of what is first is made.
 /// With either, what `salvage` says is of no use.
-///
-/// Source: own.
 pub(crate) fn save_area<B: Blocks, F: NewFolder>(
     alloc: Global,
     disk: &B,

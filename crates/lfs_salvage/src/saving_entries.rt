@@ -9,7 +9,7 @@ ghost use Rattle.lfs_fs.specs.RowHeld.{row_body_held};
 ghost use Rattle.lfs_fs.specs.RowShown.{HasBlocks};
 ghost use Rattle.lfs_host.specs.Scene.{HasRefused, KeepsFiles};
 ghost use Rattle.lfs_meta.specs.BodyHeld.{body_held};
-ghost use Rattle.lfs_salvage.specs.AreaMade.{entries_made, entries_unsaved, entries_uses, entry_made, entry_uses, file_made, home_of};
+ghost use Rattle.lfs_salvage.specs.AreaMade.{entries_made, entries_unsaved, entries_uses, entry_made, entry_uses, file_made, parent_of};
 ghost use Rattle.lfs_salvage.specs.Below.{IsNameBelow, MakesBelow};
 ghost use Rattle.lfs_salvage.specs.Fate.{HasFileBlocks, fate, saved_bytes};
 ghost use Rattle.lfs_salvage.specs.FateHeld.{fate_held};
@@ -19,8 +19,8 @@ ghost use Rattle.lfs_salvage.specs.Word.{entry_word};
 
 use crate::entry_name::EntryName;
 use crate::file_body::FileBody;
-use crate::home::Home;
 use crate::naming::begin_file;
+use crate::parent::Parent;
 use crate::reading::file_of;
 use crate::salvage::Salvage;
 use lfs_block::Blocks;
@@ -108,25 +108,34 @@ fn save_entry<B: Blocks, F: NewFolder>(
     alloc: Global,
     disk: &B,
     entry: &Entry,
-    home: Home,
+    parent: Parent,
     block: u32,
     above: &str,
     salvage: &mut Salvage,
     folder: &mut F,
 ) -> Result<(), ExtractFault>
     ensures made { (numbered : Bool) × Saves result (F.known folder.old).made (F.known folder.new).made
-        (entry_made (B.disk disk.now) above.now numbered block home.entry salvage.old.uses.items entry.now) }
-    ensures uses { OnOk result (salvage.new.uses.items ≡ entry_uses (B.disk disk.now) salvage.old.uses.items home entry.now) }
+        (entry_made (B.disk disk.now) above.now numbered block parent.entry salvage.old.uses.items entry.now) }
+    ensures uses { OnOk result (salvage.new.uses.items ≡ entry_uses (B.disk disk.now) salvage.old.uses.items parent entry.now) }
     ensures unsaved { OnOk result (salvage.new.unsaved.items
-        ≡ salvage.old.unsaved.items ++ unsaved home (fate (B.disk disk.now) salvage.old.uses.items entry.now)) }
+        ≡ salvage.old.unsaved.items ++ unsaved parent (fate (B.disk disk.now) salvage.old.uses.items entry.now)) }
     ensures below { (top : List ℕ) → IsNameBelow top above.now → MakesBelow top (F.known folder.old).made (F.known folder.new).made }
     ensures blamed { IfErr result (λ fault. fault ≡ CannotWrite → HasRefused (F.known folder.new)) }
     ensures kept { KeepsFiles (F.known folder.old) (F.known folder.new) }
 {
     let body = file_of(alloc, disk, &salvage.uses, entry)?;
-    salvage.keep_unsaved(home, &body)?;
-    make_entry(alloc, disk, entry, &body, block, home.entry, above, folder)?;
-    salvage.settle(home, &body);
+    salvage.keep_unsaved(parent, &body)?;
+    make_entry(
+        alloc,
+        disk,
+        entry,
+        &body,
+        block,
+        parent.entry,
+        above,
+        folder,
+    )?;
+    salvage.settle(parent, &body);
     Ok(())
 }
 
@@ -152,12 +161,12 @@ pub(crate) fn save_entries<B: Blocks, F: NewFolder>(
     ensures kept { KeepsFiles (F.known folder.old) (F.known folder.new) }
 {
     'each: for (index, entry) in entries.iter().enumerate() {
-        let home = Home {
+        let parent = Parent {
             area,
             call,
             entry: index,
         };
-        save_entry(alloc, disk, entry, home, block, above, salvage, folder)?;
+        save_entry(alloc, disk, entry, parent, block, above, salvage, folder)?;
     }
     Ok(())
 }

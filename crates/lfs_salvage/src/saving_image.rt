@@ -115,8 +115,6 @@ fn find_left<C: Blocks>(
 ///
 /// `CannotWrite` where the host refuses to make a folder or a file, or to write to one: then all before it is made, and a file that was
 /// begun may be left with a beginning of its contents. `Memory` says only that a growth was refused, and some of what is first is made.
-///
-/// Source: own.
 pub fn save_image<B: Blocks, C: Blocks, F: NewFolder>(
     alloc: Global,
     disk: &B,

@@ -33,7 +33,7 @@ fn own_word(name: &[u8]) -> Option<&str>
     }
 }
 
-/// The bytes of a name as a listing shows them, as a text. The caller owes a name that an image may hold.
+/// The bytes of a name as a listing shows them, as a text.
 fn shown_text(alloc: Global, name: &[u8]) -> Result<String, AllocError>
     requires { is_name name.now ≡ true }
     ensures { IfOk result (λ text. string_bytes text ≡ flat_map shown_byte name.now) }

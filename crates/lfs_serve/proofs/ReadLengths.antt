@@ -15,7 +15,7 @@ use Rattle.lfs_block.proofs.BytesLemmas.{image_of_disk}
 use Rattle.lfs_fs.specs.Reading.{reading_of}
 use Rattle.lfs_lower.specs.ByDevice.{IsReadByDevice}
 use Rattle.lfs_lower.specs.ReadAs.{IsReadAs}
-use Rattle.lfs_lower.specs.Within.{IsOwnPart, count_stated, own_part, whole_blocks}
+use Rattle.lfs_lower.specs.Within.{IsOwnPart, count_stated, own_part, complete_blocks}
 use Rattle.lfs_serve.specs.ReadBy.{IsReadAt}
 
 -- ---- what is read
@@ -43,8 +43,8 @@ read_as_long false size old new same =
 take_long : (n : ℕ) (bytes : List ℕ) → length (take n bytes) ≤ length bytes
 take_long n bytes = omega (arith, length-take n bytes)
 
-whole_blocks_long : (size : ℕ) (bytes : List ℕ) → length (whole_blocks size bytes) ≤ length bytes
-whole_blocks_long size bytes = go (size == 0)
+complete_blocks_long : (size : ℕ) (bytes : List ℕ) → length (complete_blocks size bytes) ≤ length bytes
+complete_blocks_long size bytes = go (size == 0)
   where
     go : (b : Bool) → length (if b then bytes else take (min (length bytes / size) 65536 * size) bytes) ≤ length bytes
     go true = omega arith
@@ -69,10 +69,10 @@ own_long size bytes own (inr (fault, why, same)) =
 pub read_long : (place : Option ℕ) (by_device : Bool) (size : ℕ) (old new : List ℕ) → IsReadAt place by_device size old new
     → length new ≤ length old
 read_long None by_device size old new read = read_as_long by_device size old new read
-read_long (Some place) by_device size old new (whole, read, own) =
-    let first : length (whole_blocks size old) ≤ length old = whole_blocks_long size old in
-    let second : length whole ≤ length (whole_blocks size old) = read_as_long by_device size (whole_blocks size old) whole read in
-    let third : length new ≤ length whole = own_long size whole new own in
+read_long (Some place) by_device size old new (complete, read, own) =
+    let first : length (complete_blocks size old) ≤ length old = complete_blocks_long size old in
+    let second : length complete ≤ length (complete_blocks size old) = read_as_long by_device size (complete_blocks size old) complete read in
+    let third : length new ≤ length complete = own_long size complete new own in
     omega arith
 
 -- ---- bytes that are kept

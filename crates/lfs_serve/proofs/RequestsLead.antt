@@ -5,12 +5,13 @@ use Rattle.std.specs.Prelude.{codes, map}
 use Rattle.std.proofs.lemmas.List.{take_all}
 use Rattle.std.proofs.lemmas.Option.{same_Some}
 use Rattle.lfs_block.specs.Disk.{Disk, IsDisk, image_of}
-use Rattle.lfs_book.specs.Book.{most_journal}
-use Rattle.lfs_book.specs.Laws.{JournalsAreShort}
+use Rattle.lfs_journal.specs.Book.{most_journal}
+use Rattle.lfs_journal.specs.Laws.{JournalsAreShort}
 use Rattle.lfs_command.specs.declared.refusal.Refusal.{Refusal}
 use Rattle.lfs_history.specs.History.{History, fresh_history}
 use Rattle.lfs_history.specs.Batch.{TakesAll}
 use Rattle.lfs_history.specs.Meaning.{OnBytes, step_of}
+use Rattle.lfs_json.specs.declared.form.Form.{Form}
 use Rattle.lfs_request.specs.declared.fault.Fault.{Fault}
 use Rattle.lfs_request.specs.declared.fault.Fault.TheVariants.{Refused, CannotWrite}
 use Rattle.lfs_request.specs.declared.outcome.Outcome.{Outcome}
@@ -26,7 +27,7 @@ use Rattle.lfs_step.specs.Histories.{StepsLeaveHistories}
 use Rattle.lfs_step.specs.Outcome.{AnswersDone, given}
 use Rattle.lfs_step.proofs.OutcomeLemmas.{AnswersBy}
 use Rattle.lfs_request.specs.Query.{Question}
-use Rattle.lfs_request.specs.View.{start_of, whole_view}
+use Rattle.lfs_request.specs.View.{start_of, complete_view}
 use Rattle.lfs_request.specs.declared.view.View.{View}
 use Rattle.lfs_step.specs.Runs.{GoesOn, HasGoodRows}
 use Rattle.lfs_exchange.specs.declared.step_kind.StepKind.{StepKind}
@@ -73,8 +74,8 @@ image_not_journal name = longer name (codes ".lfsj") (omega arith)
 
 -- ---- what is read
 
-whole_read : (most : ℕ) (whole read : List ℕ) → length whole ≤ most → BeginsWith most whole read → read ≡ whole
-whole_read most whole read short begins = begins ∙ take_all (most + 1) whole (omega (arith, short))
+complete_read : (most : ℕ) (complete read : List ℕ) → length complete ≤ most → BeginsWith most complete read → read ≡ complete
+complete_read most complete read short begins = begins ∙ take_all (most + 1) complete (omega (arith, short))
 
 -- an image isn't longer than what is read of one
 image_short : (size : ℕ) (image : List ℕ) → IsDisk (image_of size image) → length image ≤ most_image
@@ -88,15 +89,15 @@ journal_short short d (byte ∷ bytes) h denotes =
 
 image_read : (size : ℕ) (name read : List ℕ) (files : Files) (h : History) (denotes : FilesDenote size name files h)
     → ReadsFile (Some files) name most_image read → read ≡ denotes.0
-image_read size name read files h (image, is, denotes) (whole, there, begins) =
-    let same : whole ≡ image = same_Some whole image (sym there ∙ is) in
-    whole_read most_image image read (image_short size image denotes.0)
+image_read size name read files h (image, is, denotes) (complete, there, begins) =
+    let same : complete ≡ image = same_Some complete image (sym there ∙ is) in
+    complete_read most_image image read (image_short size image denotes.0)
     (subst (λ (w : List ℕ). BeginsWith most_image w read) same begins)
 
 journal_read : JournalsAreShort → (size : ℕ) (name read : List ℕ) (files : Files) (h : History) → FilesDenote size name files h
     → FindsFile (Some files) (journal_name name) most_journal read → read ≡ bytes_there (files (journal_name name))
 journal_read short size name read files h (image, is, denotes) found =
-    whole_read most_journal (bytes_there (files (journal_name name))) read
+    complete_read most_journal (bytes_there (files (journal_name name))) read
     (journal_short short (image_of size image) (bytes_there (files (journal_name name))) h denotes.1) found
 
 -- ---- files that denote a history
@@ -146,22 +147,22 @@ record Laws : Type 0 where
   leaves : StepsLeaveHistories
 
 -- a question
-asks : (query : Question) (size : ℕ) (name : List ℕ) (old new : Files) (h : History) → FilesDenote size name old h → Some new ≡ Some old
-    → StepLeads size name (Ask query) new h
-asks query size name old new h denotes same = record {
+asks : (query : Question) (form : Form) (size : ℕ) (name : List ℕ) (old new : Files) (h : History) → FilesDenote size name old h → Some new ≡ Some old
+    → StepLeads size name (Ask query form) new h
+asks query form size name old new h denotes same = record {
   next = h;
   goes = refl;
   denotes = same_files size name old new h same denotes;
 }
 
-asked : (query : Question) (size : ℕ) (name : List ℕ) (old new : Files) (h : History) (outcome : Outcome) → FilesDenote size name old h
-    → LeavesFiles (kind_of_query query) (Some old) (Some new) name outcome → StepLeads size name (Ask query) new h
-asked query.Check size name old new h outcome denotes same = asks query.Check size name old new h denotes same
-asked (query.Ls path) size name old new h outcome denotes same = asks (query.Ls path) size name old new h denotes same
-asked (query.Blocks sums) size name old new h outcome denotes same = asks (query.Blocks sums) size name old new h denotes same
-asked (query.Cat path) size name old new h outcome denotes same = asks (query.Cat path) size name old new h denotes same
-asked (query.Diff other other_size quiet) size name old new h outcome denotes same = asks (query.Diff other other_size quiet) size name old new h denotes same
-asked query.Log size name old new h outcome denotes same = asks query.Log size name old new h denotes same
+asked : (query : Question) (form : Form) (size : ℕ) (name : List ℕ) (old new : Files) (h : History) (outcome : Outcome) → FilesDenote size name old h
+    → LeavesFiles (kind_of_query query) (Some old) (Some new) name outcome → StepLeads size name (Ask query form) new h
+asked query.Check form size name old new h outcome denotes same = asks query.Check form size name old new h denotes same
+asked (query.Ls path digests) form size name old new h outcome denotes same = asks (query.Ls path digests) form size name old new h denotes same
+asked (query.Blocks sums) form size name old new h outcome denotes same = asks (query.Blocks sums) form size name old new h denotes same
+asked (query.Cat path) form size name old new h outcome denotes same = asks (query.Cat path) form size name old new h denotes same
+asked (query.Diff other other_size quiet) form size name old new h outcome denotes same = asks (query.Diff other other_size quiet) form size name old new h denotes same
+asked query.Log form size name old new h outcome denotes same = asks query.Log form size name old new h denotes same
 
 -- all but the image is forgotten
 forgets : Laws → (size : ℕ) (name : List ℕ) (old new : Files) (h : History) (b : HandedBytes) (outcome : Outcome) → FilesDenote size name old h
@@ -221,7 +222,7 @@ done_leads laws (Pack count limits rows) size name old new h b outcome (packed, 
     let next = fresh_history (image_of size outcome.image.items) in
     let left = laws.leaves (Pack count limits rows) (given size b.image b.journal) outcome answers packed are in
     record { next = next; goes = (refl, answers.0); denotes = written size name old new outcome next both left }
-done_leads laws (Ask query) size name old new h b outcome good denotes handed answers same = asked query size name old new h outcome denotes same
+done_leads laws (Ask query form) size name old new h b outcome good denotes handed answers same = asked query form size name old new h outcome denotes same
 done_leads laws Forget size name old new h b outcome good denotes handed answers leaves =
     forgets laws size name old new h b outcome denotes handed answers leaves
 done_leads laws (Change steps) size name old new h b outcome good denotes handed answers leaves =
@@ -233,11 +234,11 @@ done_leads laws (Tree change keep) size name old new h b outcome good denotes ha
 
 -- a step is a question
 abbrev IsAsking : Step → Type 0
-IsAsking s = (query : Question) × (s ≡ Ask query)
+IsAsking s = (query : Question) × (form : Form) × (s ≡ Ask query form)
 
 -- only a question may be asked of an image that isn't all of its file, as it is
 abbrev IsReadFor : Step → Manner → Type 0
-IsReadFor s manner = (manner.view ≡ whole_view) ⊎ IsAsking s
+IsReadFor s manner = (manner.view ≡ complete_view) ⊎ IsAsking s
 
 -- a step that was done
 step_leads : Laws → (s : Step) (manner : Manner) (size : ℕ) (name : List ℕ) (scene behind : Scene) (old new : Files) (h : History) → HasGoodRows s
@@ -256,9 +257,9 @@ step_leads laws s manner size name scene behind old new h good for before later 
           (subst (λ (v : View). IsHanded (kind_of s) (start_of v) name scene b) plain runs.handed) in
           done_leads laws s size name old new h b outcome good denotes at
           (subst (λ (i : List ℕ). AnswersDone s (given size i b.journal) outcome) same done) left
-      | inr (query, is) ↦
+      | inr (query, form, is) ↦
           subst (λ (t : Step). StepLeads size name t new h) (sym is)
-          (asked query size name old new h outcome denotes (subst (λ (t : Step). LeavesFiles (kind_of t) (Some old) (Some new) name outcome) is left))
+          (asked query form size name old new h outcome denotes (subst (λ (t : Step). LeavesFiles (kind_of t) (Some old) (Some new) name outcome) is left))
     ]
 
 -- ---- what a step leaves that wasn't done
@@ -299,7 +300,7 @@ stop_leaves s manner size name scene behind fault old new h before later denotes
     inl (same_files size name old new h (sym later ∙ same ∙ before) denotes)
 stop_leaves s manner size name scene behind fault old new h before later denotes (inr (inl (refused, keeps))) =
     inl (same_files size name old new h (sym later ∙ keeps.0 ∙ before) denotes)
-stop_leaves s manner size name scene behind fault old new h before later denotes (inr (inr (unwritten, (answered, whole, outcome, runs, spares)))) =
+stop_leaves s manner size name scene behind fault old new h before later denotes (inr (inr (unwritten, (answered, complete, outcome, runs, spares)))) =
     let placed = behind.has_refused_place in
     let left : SparesFiles fault (kind_of s) placed (Some old) (Some new) name outcome =
     subst (λ (f : Option Files). SparesFiles fault (kind_of s) placed (Some old) f name outcome) later
@@ -319,13 +320,13 @@ good_step (task.Repack source extent said) size scene (Pack count stated rows) p
 good_step (task.Format many limits) size scene (Pack count stated rows) becomes = absurd becomes
 good_step (task.Extract dir path view) size scene (Pack count stated rows) becomes = absurd becomes
 good_step (task.Salvage dir view) size scene (Pack count stated rows) becomes = absurd becomes
-good_step (task.Ask query view) size scene (Pack count stated rows) becomes = absurd becomes
+good_step (task.Ask query form view) size scene (Pack count stated rows) becomes = absurd becomes
 good_step task.Forget size scene (Pack count stated rows) becomes = absurd becomes
 good_step (task.Change move) size scene (Pack count stated rows) becomes = absurd becomes
 good_step (task.Tree change keep) size scene (Pack count stated rows) becomes = absurd becomes
 good_step (task.Batch file keep one) size scene (Pack count stated rows) becomes = absurd becomes
 good_step t size scene (Format count limits) becomes = tt
-good_step t size scene (Ask query) becomes = tt
+good_step t size scene (Ask query form) becomes = tt
 good_step t size scene Forget becomes = tt
 good_step t size scene (Change steps) becomes = tt
 good_step t size scene (Tree change keep) becomes = tt
@@ -365,14 +366,14 @@ EndsAsStep t older size name old new fault =
     ⊎ (KeepsScene old new × ((why : Fault) × (fault ≡ Some why) × IsNotBegun t name old new why))
 
 -- the task of a question becomes one
-asking : (query : Query (Bor (List ℕ))) (view : View) (size : ℕ) (scene : Scene) (s : Step) → BecomesStep (task.Ask query view) size scene s
+asking : (query : Query (Bor (List ℕ))) (form : Form) (view : View) (size : ℕ) (scene : Scene) (s : Step) → BecomesStep (task.Ask query form view) size scene s
     → IsAsking s
-asking query view size scene (Ask question) becomes = (question, refl)
-asking query view size scene (Format count limits) becomes = absurd becomes
-asking query view size scene (Pack count limits rows) becomes = absurd becomes
-asking query view size scene Forget becomes = absurd becomes
-asking query view size scene (Change steps) becomes = absurd becomes
-asking query view size scene (Tree change keep) becomes = absurd becomes
+asking query form view size scene (Ask question said) becomes = (question, said, refl)
+asking query form view size scene (Format count limits) becomes = absurd becomes
+asking query form view size scene (Pack count limits rows) becomes = absurd becomes
+asking query form view size scene Forget becomes = absurd becomes
+asking query form view size scene (Change steps) becomes = absurd becomes
+asking query form view size scene (Tree change keep) becomes = absurd becomes
 
 -- a task that becomes a step
 step_ends : Laws → (fault : Option Fault) (t : Task) (older : Bool) (size : ℕ) (name : List ℕ) (scene behind : Scene) (old new : Files) (h : History)
@@ -407,9 +408,9 @@ task_ends laws fault (task.Pack extent limits dir) older size name scene behind 
 task_ends laws fault (task.Repack source extent said) older size name scene behind old new h before later denotes ends =
     step_ends laws fault (task.Repack source extent said) older size name scene behind old new h (λ next goes. goes) (λ s becomes. inl refl) before later
     denotes ends
-task_ends laws fault (task.Ask query view) older size name scene behind old new h before later denotes ends =
-    step_ends laws fault (task.Ask query view) older size name scene behind old new h (λ next goes. goes)
-    (λ s becomes. inr (asking query view size scene s becomes)) before later denotes ends
+task_ends laws fault (task.Ask query form view) older size name scene behind old new h before later denotes ends =
+    step_ends laws fault (task.Ask query form view) older size name scene behind old new h (λ next goes. goes)
+    (λ s becomes. inr (asking query form view size scene s becomes)) before later denotes ends
 task_ends laws fault task.Forget older size name scene behind old new h before later denotes ends =
     step_ends laws fault task.Forget older size name scene behind old new h (λ next goes. goes) (λ s becomes. inl refl) before later
     denotes ends

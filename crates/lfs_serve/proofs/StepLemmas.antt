@@ -137,7 +137,7 @@ asked_kind by_device old new is = ap (λ (q : Question). kind_of_query q) is
 hands_kind : (files : Option Files) (query : Query (Bor (List ℕ))) (asked : Question) → HandsQuestion files query asked
     → kind_of_query asked ≡ kind_of_query query
 hands_kind files Check Check is = refl
-hands_kind files (Ls path) (Ls same_path) is = refl
+hands_kind files (Ls path digests) (Ls same_path same_digests) is = refl
 hands_kind files (Blocks sums) (Blocks same) is = refl
 hands_kind files (Cat path) (Cat text) is = refl
 hands_kind files (Diff name size quiet) (Diff other other_size is_quiet) is = refl
@@ -215,8 +215,8 @@ pub ends_behind : (step : Step) (manner : Manner) (size : ℕ) (name : List ℕ)
     (answered : Option Fault) → is_answered answered ≡ true → ended ≡ Some fault → IsUnwritten new fault
     → RunsStep step manner size name old new answered outcome
     → SparesFiles fault (kind_of step) new.has_refused_place old.files new.files name outcome → EndsStep step manner size name old new ended
-ends_behind step manner size name old new ended fault outcome answered whole is unwritten runs spares =
-    ends_stopped step manner size name old new ended fault is (inr (inr (unwritten, (answered, whole, outcome, runs, spares))))
+ends_behind step manner size name old new ended fault outcome answered complete is unwritten runs spares =
+    ends_stopped step manner size name old new ended fault is (inr (inr (unwritten, (answered, complete, outcome, runs, spares))))
 
 -- nor does what kept the answer to a question from being handed on, which two images differ
 pub ends_unhanded : (step : Step) (manner : Manner) (size : ℕ) (name : List ℕ) (old new : Scene) (kind : StepKind) (ended fault : Fault) (outcome : Outcome)
@@ -271,12 +271,12 @@ step_from step manner size name mid old new (Some fault) files printed (inr (inl
     inr (inl (inl (h, handed_from (kind_of step) (start_of manner.view) name mid old h files handed, refused), (keeps.0 ∙ files, keeps.1 ∙ printed)))
 step_from step manner size name mid old new (Some fault) files printed (inr (inl (inr wants, keeps))) =
     inr (inl (inr wants, (keeps.0 ∙ files, keeps.1 ∙ printed)))
-step_from step manner size name mid old new (Some fault) files printed (inr (inr (unwritten, (answered, whole, outcome, runs, spares)))) =
+step_from step manner size name mid old new (Some fault) files printed (inr (inr (unwritten, (answered, complete, outcome, runs, spares)))) =
     inr (inr (
       unwritten,
       (
         answered,
-        whole,
+        complete,
         outcome,
         runs_from step manner size name mid old new answered outcome files printed runs,
         subst (λ (f : Option Files). SparesFiles fault (kind_of step) new.has_refused_place f new.files name outcome) files spares,

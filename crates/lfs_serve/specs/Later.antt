@@ -17,7 +17,7 @@ later_alone size bytes = record { image = later_version bytes size; other = None
 
 -- those in what a step is done on: in the image, and in the one that it is compared with
 abbrev pub later_read : Step → ℕ → List ℕ → Later
-later_read (Ask (Diff other other_size quiet)) size image =
+later_read (Ask (Diff other other_size quiet) form) size image =
     record { image = later_version image size; other = later_version other.items other_size }
 later_read step size image = later_alone size image
 

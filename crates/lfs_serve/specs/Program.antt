@@ -6,7 +6,7 @@ use Rattle.lfs_request.specs.declared.manner.Manner.{Manner}
 use Rattle.lfs_request.specs.declared.outcome.Outcome.{Outcome}
 use Rattle.lfs_request.specs.Fault.{status_of}
 use Rattle.lfs_request.specs.Query.{Question}
-use Rattle.lfs_request.specs.View.{start_of, whole_view}
+use Rattle.lfs_request.specs.View.{start_of, complete_view}
 use Rattle.lfs_history.specs.Filling.{bytes_given}
 use Rattle.lfs_history.specs.Meaning.{step_by, step_of}
 use Rattle.lfs_history.specs.Taking as change
@@ -94,8 +94,8 @@ BecomesStep (Format count limits) size s (step.Format blocks stated) = (blocks �
 BecomesStep (Pack extent limits dir) size s (step.Pack count stated rows) =
     PacksFolder s.tree dir.now rows.now × IsExtent size limits rows.now extent count × (stated ≡ limits)
 BecomesStep (Repack source extent said) size s (step.Pack count stated rows) = PacksSource source extent said size s.files count stated rows.now
-BecomesStep (Ask query view) size s (step.Ask question) =
-    (handed : Question) × HandsQuestion s.files query handed × IsAskedBy view.by_device handed question
+BecomesStep (Ask query form view) size s (step.Ask question said) =
+    (handed : Question) × HandsQuestion s.files query handed × IsAskedBy view.by_device handed question × (said ≡ form)
 BecomesStep Forget size s step.Forget = ⊤
 BecomesStep (Change move) size s (step.Change steps) =
     (read : List ℕ) × HandsInput move s.files s.typed read × (map step_of steps.now ≡ step_by (bytes_given read) move ∷ [])
@@ -105,12 +105,12 @@ BecomesStep _ size s _ = ⊥
 
 -- the manner in which the image is read that a task is done on: as all of its file, as it is, or as the task looks at it
 abbrev pub as_it_is : Bool → Manner
-as_it_is older = record { takes_older = older; view = whole_view }
+as_it_is older = record { takes_older = older; view = complete_view }
 
 abbrev pub manner_of : Task → Bool → Manner
 manner_of (Extract dir path view) older = record { takes_older = older; view = view }
 manner_of (Salvage dir view) older = record { takes_older = older; view = view }
-manner_of (Ask query view) older = record { takes_older = older; view = view }
+manner_of (Ask query form view) older = record { takes_older = older; view = view }
 manner_of _ older = as_it_is older
 
 -- the kind of that step, which is known before the image's files are taken up, once a folder or a script is read
@@ -120,7 +120,7 @@ HasKind (Pack extent limits dir) s kind = (kind ≡ Makes) × ((rows : List Pack
 HasKind (Repack source extent said) s kind = kind ≡ Makes
 HasKind (Extract dir path view) s kind = ⊥
 HasKind (Salvage dir view) s kind = ⊥
-HasKind (Ask query view) s kind = kind ≡ kind_of_query query
+HasKind (Ask query form view) s kind = kind ≡ kind_of_query query
 HasKind Forget s kind = kind ≡ Forgets
 HasKind (Change move) s kind = kind ≡ Changes
 HasKind (Tree change keep) s kind = (kind ≡ Changes) × IsReadFirst change s
@@ -133,7 +133,7 @@ IsNotRead (Tree change keep) old new why = IsNotReadFor change old new why
 IsNotRead (Batch file keep one) old new why = BecomesNoBatch file one old new why
 IsNotRead (Change move) old new why = IsUnread new why
 IsNotRead (Repack source extent said) old new why = RefusesSource source old new why
-IsNotRead (Ask query view) old new why = IsOtherUnread new why
+IsNotRead (Ask query form view) old new why = IsOtherUnread new why
 IsNotRead _ old new why = ⊥
 
 -- why no step of a task is run: what is read for it isn't, or its image's files aren't taken up

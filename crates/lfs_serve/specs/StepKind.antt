@@ -9,7 +9,7 @@ use Rattle.lfs_step.specs.declared.step.Step.TheVariants.{Format, Pack, Ask, For
 abbrev pub kind_of : Step → StepKind
 kind_of (Format count limits) = Makes
 kind_of (Pack count limits rows) = Makes
-kind_of (Ask query) = kind_of_query query
+kind_of (Ask query form) = kind_of_query query
 kind_of Forget = Forgets
 kind_of (Change steps) = kind_of_steps steps.now
 kind_of (Tree change keep) = Changes

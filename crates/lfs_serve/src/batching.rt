@@ -18,7 +18,7 @@ use crate::stepping::stepped;
 use lfs_exchange::{kind_of_steps, read_contents, read_input, taken_up};
 use lfs_history::Move;
 use lfs_host::Host;
-use lfs_report::{Beside, Stop, stop_of_line, with_line, with_number};
+use lfs_report::{Context, Stop, stop_of_line, with_line, with_number};
 use lfs_request::{Fault, Request};
 use lfs_step::Step;
 use lfs_texts::{Script, ScriptFault, ScriptLine, first_other, script_lines, script_of};
@@ -30,7 +30,7 @@ pub(crate) fn batched<H: Host>(
     alloc: Global,
     host: &mut H,
     request: &Request<'_>,
-    beside: &mut Beside,
+    context: &mut Context,
     file: Option<&str>,
     keep: Option<u32>,
     one: bool,
@@ -41,17 +41,22 @@ pub(crate) fn batched<H: Host>(
     ensures rest { TaskLeavesRest (Batch file.entry keep one) (H.known host.old) (H.known host.new) }
 {
     let text = script_text(alloc, host, file)?;
-    let end = text_batched(alloc, host, request, beside, &text, keep, one);
-    lined(alloc, &text, beside, end)
+    let end = text_batched(alloc, host, request, context, &text, keep, one);
+    lined(alloc, &text, context, end)
 }
 
 /// The end of a script, with the line that it is about.
-fn lined(alloc: Global, text: &[u8], beside: &mut Beside, end: Result<(), Stop>) -> Result<(), Stop>
+fn lined(
+    alloc: Global,
+    text: &[u8],
+    context: &mut Context,
+    end: Result<(), Stop>,
+) -> Result<(), Stop>
     ensures { stopped_by result ≡ stopped_by end }
 {
     match end {
         Ok(()) => Ok(()),
-        Err(stop) => Err(with_line(alloc, text, beside, stop)),
+        Err(stop) => Err(with_line(alloc, text, context, stop)),
     }
 }
 
@@ -74,7 +79,7 @@ fn text_batched<H: Host>(
     alloc: Global,
     host: &mut H,
     request: &Request<'_>,
-    beside: &mut Beside,
+    context: &mut Context,
     text: &[u8],
     keep: Option<u32>,
     one: bool,
@@ -88,7 +93,7 @@ fn text_batched<H: Host>(
 {
     let script = script_of(alloc, text);
     match lines_said(alloc, &script, keep, one) {
-        Ok(lines) => lines_batched(alloc, host, request, beside, &lines, keep, one),
+        Ok(lines) => lines_batched(alloc, host, request, context, &lines, keep, one),
         Err(first) => Err(stop_of_line(first)),
     }
 }
@@ -120,7 +125,7 @@ fn lines_batched<H: Host>(
     alloc: Global,
     host: &mut H,
     request: &Request<'_>,
-    beside: &mut Beside,
+    context: &mut Context,
     lines: &[ScriptLine<'_>],
     keep: Option<u32>,
     one: bool,
@@ -134,7 +139,7 @@ fn lines_batched<H: Host>(
 {
     let read = read_lines(alloc, host, lines)?;
     let moves = moves_of(alloc, lines, &read)?;
-    let end = moves_batched(alloc, host, request, beside, &moves, keep, one);
+    let end = moves_batched(alloc, host, request, context, &moves, keep, one);
     numbered(lines, end)
 }
 
@@ -153,7 +158,7 @@ fn moves_batched<H: Host>(
     alloc: Global,
     host: &mut H,
     request: &Request<'_>,
-    beside: &mut Beside,
+    context: &mut Context,
     moves: &[Move<'_>],
     keep: Option<u32>,
     one: bool,
@@ -166,14 +171,14 @@ fn moves_batched<H: Host>(
     ensures made { (H.known host.new).made ≡ (H.known host.old).made }
 {
     if !one || moves.is_empty() {
-        return moves_taken(alloc, host, request, beside, moves);
+        return moves_taken(alloc, host, request, context, moves);
     }
     let commands = commands_of(alloc, moves)?;
     let change = [Move::Together {
         commands: &commands,
         keep,
     }];
-    moves_taken(alloc, host, request, beside, &change)
+    moves_taken(alloc, host, request, context, &change)
 }
 
 /// Takes steps.
@@ -181,7 +186,7 @@ fn moves_taken<H: Host>(
     alloc: Global,
     host: &mut H,
     request: &Request<'_>,
-    beside: &mut Beside,
+    context: &mut Context,
     steps: &[Move<'_>],
 ) -> Result<(), Stop>
     requires { AllByRecursion (λ step. KeepsInRange (step_of step)) steps.now }
@@ -191,5 +196,5 @@ fn moves_taken<H: Host>(
     ensures made { (H.known host.new).made ≡ (H.known host.old).made }
 {
     let handed = taken_up(alloc, host, kind_of_steps(steps), 0, request.image)?;
-    stepped(alloc, host, request, beside, handed, Step::Change(steps))
+    stepped(alloc, host, request, context, handed, Step::Change(steps))
 }

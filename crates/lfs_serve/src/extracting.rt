@@ -21,7 +21,7 @@ use lfs_exchange::{StepKind, fault_of_reading, taken_up};
 use lfs_extract::{ExtractFault, extract_rows};
 use lfs_fs::{Mounted, mount};
 use lfs_host::{Host, HostKind};
-use lfs_report::{Beside, Stop, stop_of_extracting, stop_of_image};
+use lfs_report::{Context, Stop, stop_of_extracting, stop_of_image};
 use lfs_request::{Fault, Manner, Place, Request, View};
 use lfs_step::names_of_directory;
 use std::alloc::Global;
@@ -32,7 +32,7 @@ pub(crate) fn extracted<H: Host>(
     alloc: Global,
     host: &mut H,
     request: &Request<'_>,
-    beside: &mut Beside,
+    context: &mut Context,
     view: View,
     path: &[u8],
     dir: &str,
@@ -46,9 +46,9 @@ pub(crate) fn extracted<H: Host>(
         takes_older: request.takes_older,
         view,
     };
-    pass_alone(manner, request.size, &handed.image, beside)?;
+    pass_alone(manner, request.size, &handed.image, context)?;
     let image = read_by(alloc, view, request.size, handed.image)?;
-    extract_bytes(alloc, host, request, beside, image, path, dir)
+    extract_bytes(alloc, host, request, context, image, path, dir)
 }
 
 /// Makes a folder out of bytes that are an image. The text of what is told of its end is put into `beside`.
@@ -56,7 +56,7 @@ fn extract_bytes<H: Host>(
     alloc: Global,
     host: &mut H,
     request: &Request<'_>,
-    beside: &mut Beside,
+    context: &mut Context,
     bytes: Vec<u8>,
     path: &[u8],
     dir: &str,
@@ -72,7 +72,7 @@ fn extract_bytes<H: Host>(
     let mut place = None;
     match extract_image(alloc, host, &image, path, &mut place, dir) {
         Ok(()) => Ok(()),
-        Err(fault) => Err(stop_of_extracting(alloc, &request.task, fault, image, place, beside)),
+        Err(fault) => Err(stop_of_extracting(alloc, &request.task, fault, image, place, context)),
     }
 }
 
@@ -92,8 +92,8 @@ fn extract_image<H: Host>(
     extract_mounted(alloc, host, image, &mounted, path, place, dir)
 }
 
-/// Makes a folder out of what stands at a path and below it in an image that mounts so. The caller owes that it does. The path is judged
-/// first: it has to be that of a directory. Where it is refused the place is left. Takes memory.
+/// Makes a folder out of what stands at a path and below it in an image that mounts so. The path is judged first: it has to be that of a
+/// directory. Where it is refused the place is left. Takes memory.
 pub(crate) fn extract_mounted<H: Host>(
     alloc: Global,
     host: &mut H,
@@ -131,7 +131,7 @@ fn told(made: Result<(), ExtractFault>) -> Result<(), Fault>
     }
 }
 
-/// What a fault of making a folder is told as. Takes no memory.
+/// What a fault of making a folder is told as.
 pub(crate) fn fault_of_extracting(fault: ExtractFault) -> Fault
     ensures { result ≡ fault_of_extracting fault }
 {
@@ -142,7 +142,7 @@ pub(crate) fn fault_of_extracting(fault: ExtractFault) -> Fault
     }
 }
 
-/// Refuses a folder under whose name there is something already. Takes no memory.
+/// Refuses a folder under whose name there is something already.
 pub(crate) fn must_be_missing<H: Host>(host: &mut H, dir: &str) -> Result<(), Fault>
     ensures missing { OnOk result (IsKind (H.known host.old).tree dir.now Missing) }
     ensures refused { IfErr result (λ fault. IsUnread (H.known host.new) fault ⊎ ((fault ≡ HostEntry) × FindsFolder dir.now (H.known host.old).tree (H.known host.old).made (H.known host.new).made)) }

@@ -6,58 +6,58 @@ ghost use Rattle.lfs_serve.specs.Later.{later_alone, later_in_source, later_read
 
 use lfs_block::MountFault;
 use lfs_lower::later_version;
-use lfs_report::{Beside, Later, Statement, Stop};
+use lfs_report::{Context, Later, Statement, Stop};
 use lfs_request::{Fault, Manner, OtherFault, Query};
 use lfs_step::Step;
 
 /// Refuses those in an image alone, of blocks of `size` bytes, unless its manner takes them. Those that are to be told of are put into
-/// `beside`, as they are by the two that follow. Takes no memory.
+/// `beside`, as they are by the two that follow.
 pub(crate) fn pass_alone(
     manner: Manner,
     size: u32,
     bytes: &[u8],
-    beside: &mut Beside,
+    context: &mut Context,
 ) -> Result<(), Stop>
     ensures { stopped_by result ≡ refused_by manner (later_alone size bytes.now) }
 {
     if manner.view.by_device {
-        beside.by_device = true;
+        context.by_device = true;
         return Ok(());
     }
-    pass(manner, later_alone(size, bytes), beside)
+    pass(manner, later_alone(size, bytes), context)
 }
 
-/// Refuses those in what a step is done on: an image of these bytes, and the one that it is compared with. Takes no memory.
+/// Refuses those in what a step is done on: an image of these bytes, and the one that it is compared with.
 pub(crate) fn pass_step(
     manner: Manner,
     step: &Step<'_>,
     size: u32,
     image: &[u8],
-    beside: &mut Beside,
+    context: &mut Context,
 ) -> Result<(), Stop>
     ensures { stopped_by result ≡ refused_by manner (later_read step.now size image.now) }
 {
     if manner.view.by_device {
-        beside.by_device = true;
+        context.by_device = true;
         return Ok(());
     }
-    pass(manner, later_read(step, size, image), beside)
+    pass(manner, later_read(step, size, image), context)
 }
 
-/// Refuses those in an image that another one is made of. Takes no memory.
+/// Refuses those in an image that another one is made of.
 pub(crate) fn pass_source(
     manner: Manner,
     size: u32,
     bytes: &[u8],
-    beside: &mut Beside,
+    context: &mut Context,
 ) -> Result<(), Stop>
     ensures { stopped_by result ≡ refused_by manner (later_in_source size bytes.now) }
 {
     if manner.view.by_device {
-        beside.by_device = true;
+        context.by_device = true;
         return Ok(());
     }
-    pass(manner, later_in_source(size, bytes), beside)
+    pass(manner, later_in_source(size, bytes), context)
 }
 
 /// Those in an image alone.
@@ -75,13 +75,14 @@ fn later_read(step: &Step<'_>, size: u32, image: &[u8]) -> Later
     ensures { result ≡ later_read step.now size image.now }
 {
     let other = match step {
-        Step::Ask(
-            Query::Diff {
+        Step::Ask {
+            query: Query::Diff {
                 other,
                 size: other_size,
                 ..
             },
-        ) => later_version(other, *other_size),
+            ..
+        } => later_version(other, *other_size),
         _ => None,
     };
     Later {
@@ -101,12 +102,12 @@ fn later_in_source(size: u32, bytes: &[u8]) -> Later
 }
 
 /// Refuses them, unless the state before them is gone on with, and then puts them into `beside`.
-fn pass(manner: Manner, later: Later, beside: &mut Beside) -> Result<(), Stop>
+fn pass(manner: Manner, later: Later, context: &mut Context) -> Result<(), Stop>
     ensures { stopped_by result ≡ refused_by manner later }
 {
     must_be_read(manner, later)?;
     if later.image.is_some() || later.other.is_some() {
-        beside.later = later;
+        context.later = later;
     }
     Ok(())
 }

@@ -18,7 +18,7 @@ use std::alloc::{AllocError, Global};
 const MIN_BLOCK_COUNT: u32 = 2;
 
 /// How many blocks a packed image gets; where none holds its rows, as many as an image of this block size has at most, in which
-/// packing them says why. The caller owes limits that images may state. Takes memory.
+/// packing them says why. Takes memory.
 pub(crate) fn counted(
     alloc: Global,
     size: u32,
@@ -36,7 +36,7 @@ pub(crate) fn counted(
 }
 
 /// How many blocks an image gets that is made of another one of `len` bytes, which is at most as long as an image may be: those that are
-/// said, or as few as hold so many bytes. The caller owes limits that images may state. Takes memory.
+/// said, or as few as hold so many bytes. Takes memory.
 pub(crate) fn counted_for(
     alloc: Global,
     size: u32,
@@ -63,8 +63,12 @@ fn filled_count(size: u32, len: u32) -> u32
     if size == 0 {
         return 0;
     }
-    let whole = len / size;
-    if len % size == 0 { whole } else { whole + 1 }
+    let complete = len / size;
+    if len % size == 0 {
+        complete
+    } else {
+        complete + 1
+    }
 }
 
 /// The least number of blocks that holds rows; of a size that no block has, as few as an image has.

@@ -5,12 +5,12 @@ ghost use Rattle.lfs_host.specs.Scene.{KeepsAll};
 ghost use Rattle.lfs_serve.specs.Program.{IsBlamed};
 
 use lfs_block::{Image, MAX_IMAGE_LENGTH};
-use lfs_book::MAX_JOURNAL_LENGTH;
 use lfs_exchange::names_of;
 use lfs_host::Host;
-use lfs_journal::Session;
+use lfs_journal::MAX_JOURNAL_LENGTH;
 use lfs_report::{Statement, Stop};
 use lfs_request::Fault;
+use lfs_session::Session;
 use std::alloc::Global;
 
 /// Why a step on an image of this name ended early; where its journal is another image's, with whether that is the one beside it. Takes

@@ -15,7 +15,7 @@ use lfs_exchange::read_other;
 use lfs_fs::{Limits, Mounted, mount, outlines_are_sound};
 use lfs_host::Host;
 use lfs_pack::{SourceRow, source_rows};
-use lfs_report::{Beside, Sight, Stop, stop_of_source, stop_of_source_bytes};
+use lfs_report::{Context, Sight, Stop, stop_of_source, stop_of_source_bytes};
 use lfs_request::SourceImage;
 use std::alloc::{AllocError, Global};
 
@@ -35,22 +35,22 @@ pub(crate) struct Opened {
 pub(crate) fn open_source<H: Host>(
     alloc: Global,
     host: &mut H,
-    beside: &mut Beside,
+    context: &mut Context,
     source: &SourceImage<'_>,
 ) -> Result<Opened, Stop>
     ensures opened { IfOk result (IsOpened source.now (H.known host.old).files) }
     ensures refused { IfErr result (λ stop. RefusesSource source.now (H.known host.old) (H.known host.new) stop.fault) }
     ensures kept { KeepsAll (H.known host.old) (H.known host.new) }
 {
-    let bytes = source_bytes(alloc, host, beside, source)?;
-    opened_as(alloc, source.size, bytes, beside)
+    let bytes = source_bytes(alloc, host, context, source)?;
+    opened_as(alloc, source.size, bytes, context)
 }
 
 /// The bytes of its file, as they are read in its manner.
 fn source_bytes<H: Host>(
     alloc: Global,
     host: &mut H,
-    beside: &mut Beside,
+    context: &mut Context,
     source: &SourceImage<'_>,
 ) -> Result<Vec<u8>, Stop>
     ensures read { IfOk result (λ image. ReadsSource source.now (H.known host.old).files image.items) }
@@ -59,29 +59,39 @@ fn source_bytes<H: Host>(
 {
     let SourceImage { file, size, manner } = *source;
     let bytes = read_other(alloc, host, manner.view.start(), file)?;
-    pass_source(manner, size, &bytes, beside)?;
+    pass_source(manner, size, &bytes, context)?;
     Ok(read_by(alloc, manner.view, size, bytes)?)
 }
 
 /// Opens the image that bytes are.
-fn opened_as(alloc: Global, size: u32, bytes: Vec<u8>, beside: &mut Beside) -> Result<Opened, Stop>
+fn opened_as(
+    alloc: Global,
+    size: u32,
+    bytes: Vec<u8>,
+    context: &mut Context,
+) -> Result<Opened, Stop>
     ensures opened { IfOk result (IsOpenedAs size bytes.items) }
     ensures refused { IfErr result (λ stop. (stop.fault ≡ Refused Memory) ⊎ JudgesSource size bytes.items stop.fault) }
 {
     let seen = Sight::of(size, &bytes);
     match Image::new(bytes, size) {
-        Ok(image) => opened_on(alloc, &image, seen, beside),
+        Ok(image) => opened_on(alloc, &image, seen, context),
         Err((fault, bytes)) => Err(stop_of_source_bytes(fault, size, &bytes)),
     }
 }
 
 /// Opens an image, of which this is seen.
-fn opened_on(alloc: Global, image: &Image, seen: Sight, beside: &mut Beside) -> Result<Opened, Stop>
+fn opened_on(
+    alloc: Global,
+    image: &Image,
+    seen: Sight,
+    context: &mut Context,
+) -> Result<Opened, Stop>
     ensures opened { IfOk result (IsOpenedOn image.now.disk) }
     ensures refused { IfErr result (λ stop. (stop.fault ≡ Refused Memory) ⊎ RefusesMount image.now.disk stop.fault) }
 {
     outlines_are_sound();
-    let mounted = mounted_source(alloc, image, seen, beside)?;
+    let mounted = mounted_source(alloc, image, seen, context)?;
     Ok(Opened {
         len: image.size() * image.count(),
         limits: mounted.outline().limits,
@@ -94,7 +104,7 @@ fn mounted_source(
     alloc: Global,
     image: &Image,
     seen: Sight,
-    beside: &mut Beside,
+    context: &mut Context,
 ) -> Result<Mounted, Stop>
     ensures mounted { IfOk result (λ mounted. IsMountOf image.now.disk mounted) }
     ensures refused { IfErr result (λ stop. (stop.fault ≡ Refused Memory) ⊎ RefusesMount image.now.disk stop.fault) }
@@ -102,6 +112,6 @@ fn mounted_source(
     match mount(alloc, image) {
         Ok(mounted) => Ok(mounted),
         Err(MountFault::Memory) => Err(Stop::from(AllocError)),
-        Err(fault) => Err(stop_of_source(alloc, fault, image, seen, beside)),
+        Err(fault) => Err(stop_of_source(alloc, fault, image, seen, context)),
     }
 }

@@ -13,7 +13,7 @@ use lfs_exchange::{StepKind, taken_up};
 use lfs_fs::Limits;
 use lfs_host::Host;
 use lfs_pack::PackRow;
-use lfs_report::{Beside, Stop, with_need, with_row};
+use lfs_report::{Context, Stop, with_need, with_row};
 use lfs_request::{Extent, Request};
 use lfs_step::Step;
 use std::alloc::Global;
@@ -23,7 +23,7 @@ pub(crate) fn packed<H: Host>(
     alloc: Global,
     host: &mut H,
     request: &Request<'_>,
-    beside: &mut Beside,
+    context: &mut Context,
     extent: Extent,
     limits: Limits,
     dir: &str,
@@ -43,17 +43,17 @@ pub(crate) fn packed<H: Host>(
         limits,
         rows,
     };
-    let end = stepped(alloc, host, request, beside, handed, step);
-    told(alloc, request.size, limits, rows, beside, end)
+    let end = stepped(alloc, host, request, context, handed, step);
+    told(alloc, request.size, limits, rows, context, end)
 }
 
-/// The end of packing rows, with what they need, or the row that is refused. The caller owes limits that images may state.
+/// The end of packing rows, with what they need, or the row that is refused.
 pub(crate) fn told(
     alloc: Global,
     size: u32,
     limits: Limits,
     rows: &[PackRow<'_>],
-    beside: &mut Beside,
+    context: &mut Context,
     end: Result<(), Stop>,
 ) -> Result<(), Stop>
     requires { IsLimits limits }
@@ -63,7 +63,7 @@ pub(crate) fn told(
         Ok(()) => Ok(()),
         Err(stop) => {
             let stop = with_need(alloc, size, limits, rows, stop);
-            Err(with_row(alloc, limits, rows, beside, stop))
+            Err(with_row(alloc, limits, rows, context, stop))
         }
     }
 }

@@ -12,7 +12,8 @@ use lfs_exchange::{StepKind, input_of, kind_of_query, question_of, taken_up};
 use lfs_fs::Limits;
 use lfs_history::{Move, Source, filled};
 use lfs_host::Host;
-use lfs_report::{Beside, Stop};
+use lfs_json::Form;
+use lfs_report::{Context, Stop};
 use lfs_request::{Manner, Query, Request, View};
 use lfs_step::Step;
 use std::alloc::Global;
@@ -22,7 +23,7 @@ pub(crate) fn formatted<H: Host>(
     alloc: Global,
     host: &mut H,
     request: &Request<'_>,
-    beside: &mut Beside,
+    context: &mut Context,
     count: u32,
     limits: Limits,
 ) -> Result<(), Stop>
@@ -33,21 +34,22 @@ pub(crate) fn formatted<H: Host>(
 {
     let handed = taken_up(alloc, host, StepKind::Makes, 0, request.image)?;
     let step = Step::Format { count, limits };
-    stepped(alloc, host, request, beside, handed, step)
+    stepped(alloc, host, request, context, handed, step)
 }
 
-/// Asks something of an image, as it is looked at: another image is read last. Takes memory.
+/// Asks something of an image, as it is looked at, which is answered in a form: another image is read last. Takes memory.
 pub(crate) fn queried<H: Host>(
     alloc: Global,
     host: &mut H,
     request: &Request<'_>,
-    beside: &mut Beside,
+    context: &mut Context,
     query: &Query<'_, &str>,
+    form: Form,
     view: View,
 ) -> Result<(), Stop>
-    ensures ended { EndsTask (Ask query.now view) request.now.takes_older request.now.size request.now.image.now
+    ensures ended { EndsTask (Ask query.now form view) request.now.takes_older request.now.size request.now.image.now
         (H.known host.old) (H.known host.new) (stopped_by result) }
-    ensures rest { TaskLeavesRest (Ask query.now view) (H.known host.old) (H.known host.new) }
+    ensures rest { TaskLeavesRest (Ask query.now form view) (H.known host.old) (H.known host.new) }
 {
     let handed = taken_up(
         alloc,
@@ -62,8 +64,11 @@ pub(crate) fn queried<H: Host>(
         takes_older: request.takes_older,
         view,
     };
-    let step = Step::Ask(question);
-    stepped_in(alloc, host, request, beside, manner, handed, step)
+    let step = Step::Ask {
+        query: question,
+        form,
+    };
+    stepped_in(alloc, host, request, context, manner, handed, step)
 }
 
 /// Forgets all but an image. Takes memory.
@@ -71,14 +76,14 @@ pub(crate) fn forgotten<H: Host>(
     alloc: Global,
     host: &mut H,
     request: &Request<'_>,
-    beside: &mut Beside,
+    context: &mut Context,
 ) -> Result<(), Stop>
     ensures ended { EndsTask Forget request.now.takes_older request.now.size request.now.image.now
         (H.known host.old) (H.known host.new) (stopped_by result) }
     ensures rest { TaskLeavesRest Forget (H.known host.old) (H.known host.new) }
 {
     let handed = taken_up(alloc, host, StepKind::Forgets, 0, request.image)?;
-    stepped(alloc, host, request, beside, handed, Step::Forget)
+    stepped(alloc, host, request, context, handed, Step::Forget)
 }
 
 /// Takes a step on an image's history: the contents that it puts are read last. Takes memory.
@@ -86,7 +91,7 @@ pub(crate) fn changed<H: Host>(
     alloc: Global,
     host: &mut H,
     request: &Request<'_>,
-    beside: &mut Beside,
+    context: &mut Context,
     step: &Move<'_, Source<'_>>,
 ) -> Result<(), Stop>
     requires { IsTaskInRange (Change step.now) }
@@ -97,5 +102,5 @@ pub(crate) fn changed<H: Host>(
     let handed = taken_up(alloc, host, StepKind::Changes, 0, request.image)?;
     let input = input_of(alloc, host, step)?;
     let steps = [filled(step, &input)];
-    stepped(alloc, host, request, beside, handed, Step::Change(&steps))
+    stepped(alloc, host, request, context, handed, Step::Change(&steps))
 }

@@ -12,7 +12,7 @@ use crate::stepping::stepped;
 use lfs_exchange::{StepKind, taken_up};
 use lfs_host::Host;
 use lfs_pack::pack_rows;
-use lfs_report::{Beside, Stop};
+use lfs_report::{Context, Stop};
 use lfs_request::{Extent, Request, SaidLimits, SourceImage};
 use lfs_step::Step;
 use std::alloc::Global;
@@ -22,7 +22,7 @@ pub(crate) fn repacked<H: Host>(
     alloc: Global,
     host: &mut H,
     request: &Request<'_>,
-    beside: &mut Beside,
+    context: &mut Context,
     source: &SourceImage<'_>,
     extent: Option<Extent>,
     limits: SaidLimits,
@@ -33,7 +33,7 @@ pub(crate) fn repacked<H: Host>(
     ensures rest { TaskLeavesRest (Repack source.now extent limits) (H.known host.old) (H.known host.new) }
 {
     let handed = taken_up(alloc, host, StepKind::Makes, 0, request.image)?;
-    let opened = open_source(alloc, host, beside, source)?;
+    let opened = open_source(alloc, host, context, source)?;
     let rows = pack_rows(alloc, &opened.rows)?;
     let rows = rows.as_slice();
     let limits = limits.or(opened.limits);
@@ -43,6 +43,6 @@ pub(crate) fn repacked<H: Host>(
         limits,
         rows,
     };
-    let end = stepped(alloc, host, request, beside, handed, step);
-    told(alloc, request.size, limits, rows, beside, end)
+    let end = stepped(alloc, host, request, context, handed, step);
+    told(alloc, request.size, limits, rows, context, end)
 }

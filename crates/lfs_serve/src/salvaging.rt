@@ -22,7 +22,7 @@ use lfs_exchange::{StepKind, taken_up};
 use lfs_fs::mount;
 use lfs_host::Host;
 use lfs_lower::lower_all;
-use lfs_report::{Beside, Sight, Stop, stop_of_image, stop_of_salvaging};
+use lfs_report::{Context, Sight, Stop, stop_of_image, stop_of_salvaging};
 use lfs_request::{Fault, Manner, Request, View};
 use lfs_salvage::{Saved, salvage_lines, save_image};
 use lfs_survey::Found;
@@ -35,7 +35,7 @@ pub(crate) fn salvaged<H: Host>(
     alloc: Global,
     host: &mut H,
     request: &Request<'_>,
-    beside: &mut Beside,
+    context: &mut Context,
     view: View,
     dir: &str,
 ) -> Result<(), Stop>
@@ -48,10 +48,10 @@ pub(crate) fn salvaged<H: Host>(
         takes_older: request.takes_older,
         view,
     };
-    pass_alone(manner, request.size, &handed.image, beside)?;
+    pass_alone(manner, request.size, &handed.image, context)?;
     let own = own_bytes(alloc, view.by_device, &handed.image)?;
     let image = read_by(alloc, view, request.size, handed.image)?;
-    salvage_bytes(alloc, host, request.size, beside, own, image, dir)
+    salvage_bytes(alloc, host, request.size, context, own, image, dir)
 }
 
 /// A copy of the bytes of an image's file, where the image is read as a device does.
@@ -64,13 +64,12 @@ fn own_bytes(alloc: Global, by_device: bool, bytes: &[u8]) -> Result<Option<Vec<
     Ok(None)
 }
 
-/// Makes a folder with all that can still be read of bytes that are an image. The caller owes that the file's own bytes are as many, where
-/// they are kept.
+/// Makes a folder with all that can still be read of bytes that are an image.
 fn salvage_bytes<H: Host>(
     alloc: Global,
     host: &mut H,
     size: u32,
-    beside: &mut Beside,
+    context: &mut Context,
     own: Option<Vec<u8>>,
     bytes: Vec<u8>,
     dir: &str,
@@ -82,17 +81,16 @@ fn salvage_bytes<H: Host>(
 {
     let seen = Sight::of(size, &bytes);
     match Image::new(bytes, size) {
-        Ok(image) => salvage_seen(alloc, host, beside, seen, own, &image, dir),
+        Ok(image) => salvage_seen(alloc, host, context, seen, own, &image, dir),
         Err((fault, bytes)) => Err(stop_of_image(Fault::Image(fault), size, &bytes)),
     }
 }
 
-/// Makes a folder with all that can still be read of an image, of which this is seen. The caller owes that the file's own bytes are as
-/// many, where they are kept.
+/// Makes a folder with all that can still be read of an image, of which this is seen.
 fn salvage_seen<H: Host>(
     alloc: Global,
     host: &mut H,
-    beside: &mut Beside,
+    context: &mut Context,
     seen: Sight,
     own: Option<Vec<u8>>,
     image: &Image,
@@ -107,7 +105,7 @@ fn salvage_seen<H: Host>(
     match mount(alloc, image) {
         Ok(mounted) => Ok(extract_mounted(alloc, host, image, &mounted, b"/", &mut None, dir)?),
         Err(MountFault::Memory) => Err(Stop::from(AllocError)),
-        Err(cause) => salvage_image(alloc, host, beside, cause, seen, own, image, dir),
+        Err(cause) => salvage_image(alloc, host, context, cause, seen, own, image, dir),
     }
 }
 
@@ -116,7 +114,7 @@ fn salvage_seen<H: Host>(
 fn salvage_image<H: Host>(
     alloc: Global,
     host: &mut H,
-    beside: &mut Beside,
+    context: &mut Context,
     cause: MountFault,
     seen: Sight,
     own: Option<Vec<u8>>,
@@ -134,12 +132,12 @@ fn salvage_image<H: Host>(
     match own {
         None => {
             let saved = save_new(alloc, host, image, image, dir)?;
-            ended(alloc, beside, cause, seen, image, image, saved)
+            ended(alloc, context, cause, seen, image, image, saved)
         }
         Some(own) => {
             let (disk, parts) = own_images(alloc, own, image)?;
             let saved = save_new(alloc, host, &disk, &parts, dir)?;
-            ended(alloc, beside, cause, seen, image, &disk, saved)
+            ended(alloc, context, cause, seen, image, &disk, saved)
         }
     }
 }
@@ -193,7 +191,7 @@ fn save_new<H: Host>(
 /// something is lost. What is told of it is put into `beside`.
 fn ended(
     alloc: Global,
-    beside: &mut Beside,
+    context: &mut Context,
     cause: MountFault,
     seen: Sight,
     image: &Image,
@@ -204,10 +202,10 @@ fn ended(
 {
     let end = end_of(alloc, cause, seen, image, &saved);
     if end.is_ok() {
-        beside.unmounted = Some(cause);
+        context.unmounted = Some(cause);
     }
     if let Ok(lines) = salvage_lines(alloc, disk, saved) {
-        beside.lines = lines;
+        context.lines = lines;
     }
     end
 }

@@ -4,10 +4,13 @@ use lfs_report::{Seen, Sight};
 use lfs_request::Query;
 use lfs_step::Step;
 
-/// What is seen of a step. Takes no memory.
+/// What is seen of a step.
 pub(crate) fn seen_of(step: &Step<'_>) -> Seen {
     let other = match step {
-        Step::Ask(Query::Diff { other, size, .. }) => Sight::of(*size, other),
+        Step::Ask {
+            query: Query::Diff { other, size, .. },
+            ..
+        } => Sight::of(*size, other),
         _ => Sight::none(),
     };
     let count = match step {

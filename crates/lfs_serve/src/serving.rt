@@ -14,24 +14,21 @@ use crate::salvaging::salvaged;
 use crate::tree_tasks::tree_changed;
 use lfs_exchange::spare;
 use lfs_host::Host;
-use lfs_report::{Beside, Stop, tell_end, tell_later, tell_within};
+use lfs_report::{Context, Stop, tell_end, tell_later, tell_within};
 use lfs_request::{Request, Task};
 use std::alloc::Global;
 
-/// Does what is asked for, and answers the status that the program ends with. The caller owes that what is kept is 1 to 1,000 images,
-/// and limits of a new image that images may state.
-/// A fault is told on standard error, with what is known of it beside. Commits of a later disk version in what is read as an image are
-/// refused with `Version`, or told of where the request takes the state before them. Takes memory.
-///
-/// Source: own.
+/// Does what is asked for, and answers the status that the program ends with. A fault is told on standard error, with what is known of
+/// it beside. Commits of a later disk version in what is read as an image are refused with `Version`, or told of where the request
+/// takes the state before them. Takes memory.
 pub fn served<H: Host>(alloc: Global, host: &mut H, request: &Request<'_>) -> u8
     requires { IsTaskInRange request.now.task }
     ensures ended { EndsRequest request.now (H.known host.old) (H.known host.new) result }
 {
-    let mut beside = Beside::new(alloc);
-    let end = asked(alloc, host, request, &mut beside);
-    let status = tell_end(host, request, &end, &beside);
-    tell_later(host, request, beside.later);
+    let mut context = Context::new(alloc);
+    let end = asked(alloc, host, request, &mut context);
+    let status = tell_end(host, request, &end, &context);
+    tell_later(host, request, context.later);
     tell_within(host, request);
     status
 }
@@ -41,7 +38,7 @@ fn asked<H: Host>(
     alloc: Global,
     host: &mut H,
     request: &Request<'_>,
-    beside: &mut Beside,
+    context: &mut Context,
 ) -> Result<(), Stop>
     requires { IsTaskInRange request.now.task }
     ensures ended { (IsSpared request.now (H.known host.old) × EndsTask request.now.task request.now.takes_older request.now.size request.now.image.now
@@ -50,7 +47,7 @@ fn asked<H: Host>(
     ensures rest { TaskLeavesRest request.now.task (H.known host.old) (H.known host.new) }
 {
     spare(host, request.is_new, request.image)?;
-    done(alloc, host, request, beside)
+    done(alloc, host, request, context)
 }
 
 /// Does the task that is asked for.
@@ -58,7 +55,7 @@ fn done<H: Host>(
     alloc: Global,
     host: &mut H,
     request: &Request<'_>,
-    beside: &mut Beside,
+    context: &mut Context,
 ) -> Result<(), Stop>
     requires { IsTaskInRange request.now.task }
     ensures ended { EndsTask request.now.task request.now.takes_older request.now.size request.now.image.now
@@ -67,28 +64,32 @@ fn done<H: Host>(
 {
     match &request.task {
         Task::Format { count, limits } => {
-            formatted(alloc, host, request, beside, *count, *limits)
+            formatted(alloc, host, request, context, *count, *limits)
         }
         Task::Pack {
             extent,
             limits,
             dir,
-        } => packed(alloc, host, request, beside, *extent, *limits, *dir),
+        } => packed(alloc, host, request, context, *extent, *limits, *dir),
         Task::Repack {
             source,
             extent,
             limits,
-        } => repacked(alloc, host, request, beside, source, *extent, *limits),
+        } => repacked(alloc, host, request, context, source, *extent, *limits),
         Task::Extract { dir, path, view } => {
-            extracted(alloc, host, request, beside, *view, *path, *dir)
+            extracted(alloc, host, request, context, *view, *path, *dir)
         }
-        Task::Salvage { dir, view } => salvaged(alloc, host, request, beside, *view, *dir),
-        Task::Ask { query, view } => queried(alloc, host, request, beside, query, *view),
-        Task::Forget => forgotten(alloc, host, request, beside),
-        Task::Change(step) => changed(alloc, host, request, beside, step),
-        Task::Tree { change, keep } => { tree_changed(alloc, host, request, beside, change, *keep) }
+        Task::Salvage { dir, view } => salvaged(alloc, host, request, context, *view, *dir),
+        Task::Ask { query, form, view } => {
+            queried(alloc, host, request, context, query, *form, *view)
+        }
+        Task::Forget => forgotten(alloc, host, request, context),
+        Task::Change(step) => changed(alloc, host, request, context, step),
+        Task::Tree { change, keep } => {
+            tree_changed(alloc, host, request, context, change, *keep)
+        }
         Task::Batch { file, keep, one } => {
-            batched(alloc, host, request, beside, *file, *keep, *one)
+            batched(alloc, host, request, context, *file, *keep, *one)
         }
     }
 }

@@ -13,8 +13,6 @@ const USUAL_SIZE: u32 = 4_096;
 
 /// The size of a block, in bytes, that an image states which begins at a place of its file, in its first block, or else in its second one;
 /// 4,096 where neither does, and where the host refuses to read it. Nothing is changed. Takes memory.
-///
-/// Source: own.
 pub fn stated_size<H: Host>(
     alloc: Global,
     host: &mut H,

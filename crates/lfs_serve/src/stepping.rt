@@ -20,19 +20,17 @@ use crate::read_by::read_by;
 use crate::seeing::seen_of;
 use lfs_exchange::{Handed, Output, StepKind, flush, stored};
 use lfs_host::Host;
-use lfs_report::{Beside, Stop, stop_of_run};
+use lfs_report::{Context, Stop, stop_of_run};
 use lfs_request::{Fault, Manner, Outcome, Request, View};
 use lfs_step::{Step, run};
 use std::alloc::Global;
 
-/// Takes a step on the files of an image that were taken up for it, and writes what it leaves. The caller owes that they are those of the
-/// request's image, as they are known, and that this run has claimed the name, where a file is to be changed. The image is read as it is.
-/// Takes memory.
+/// Takes a step on the files of an image that were taken up for it, and writes what it leaves. The image is read as it is. Takes memory.
 pub(crate) fn stepped<H: Host>(
     alloc: Global,
     host: &mut H,
     request: &Request<'_>,
-    beside: &mut Beside,
+    context: &mut Context,
     handed: Handed,
     step: Step<'_>,
 ) -> Result<(), Stop>
@@ -55,7 +53,7 @@ pub(crate) fn stepped<H: Host>(
         takes_older: request.takes_older,
         view,
     };
-    stepped_in(alloc, host, request, beside, manner, handed, step)
+    stepped_in(alloc, host, request, context, manner, handed, step)
 }
 
 /// The same, where the image is read in this manner.
@@ -63,7 +61,7 @@ pub(crate) fn stepped_in<H: Host>(
     alloc: Global,
     host: &mut H,
     request: &Request<'_>,
-    beside: &mut Beside,
+    context: &mut Context,
     manner: Manner,
     handed: Handed,
     step: Step<'_>,
@@ -79,7 +77,7 @@ pub(crate) fn stepped_in<H: Host>(
     ensures typed { (H.known host.new).typed ≡ (H.known host.old).typed }
     ensures made { (H.known host.new).made ≡ (H.known host.old).made }
 {
-    pass_step(manner, &step, request.size, &handed.image, beside)?;
+    pass_step(manner, &step, request.size, &handed.image, context)?;
     let Handed {
         kind,
         target,
@@ -87,7 +85,7 @@ pub(crate) fn stepped_in<H: Host>(
         journal,
     } = handed;
     let image = read_by(alloc, manner.view, request.size, image)?;
-    match taken(alloc, host, request, beside, step, image, journal) {
+    match taken(alloc, host, request, context, step, image, journal) {
         Ok(outcome) => Ok(stored(alloc, host, kind, target.as_str(), &outcome)?),
         Err(stop) => Err(stopped(alloc, host, request.size, kind, target.as_str(), stop)),
     }
@@ -133,7 +131,7 @@ fn taken<H: Host>(
     alloc: Global,
     host: &mut H,
     request: &Request<'_>,
-    beside: &mut Beside,
+    context: &mut Context,
     step: Step<'_>,
     image: Vec<u8>,
     journal: Vec<u8>,
@@ -150,7 +148,7 @@ fn taken<H: Host>(
     let outcome = ran(alloc, host, request.size, step, image, journal);
     match outcome.fault {
         None => Ok(outcome),
-        Some(fault) => Err(stop_of_run(alloc, request, fault, outcome, seen, beside)),
+        Some(fault) => Err(stop_of_run(alloc, request, fault, outcome, seen, context)),
     }
 }
 

@@ -20,7 +20,7 @@ use crate::stepping::stepped;
 use lfs_exchange::{Handed, StepKind, source_read, taken_up};
 use lfs_history::Source;
 use lfs_host::Host;
-use lfs_report::{Beside, Stop};
+use lfs_report::{Context, Stop};
 use lfs_request::{Request, TreeChange};
 use lfs_step::Step;
 use lfs_sync::{SyncRow, sync_rows};
@@ -31,7 +31,7 @@ pub(crate) fn tree_changed<H: Host>(
     alloc: Global,
     host: &mut H,
     request: &Request<'_>,
-    beside: &mut Beside,
+    context: &mut Context,
     change: &TreeChange<'_, Source<'_>, &str>,
     keep: Option<u32>,
 ) -> Result<(), Stop>
@@ -43,17 +43,17 @@ pub(crate) fn tree_changed<H: Host>(
     match change {
         TreeChange::Remove { path } => {
             let change = TreeChange::Remove { path: *path };
-            change_taken(alloc, host, request, beside, change, keep)
+            change_taken(alloc, host, request, context, change, keep)
         }
         TreeChange::Make { path } => {
             let change = TreeChange::Make { path: *path };
-            change_taken(alloc, host, request, beside, change, keep)
+            change_taken(alloc, host, request, context, change, keep)
         }
         TreeChange::Put { path, bytes } => {
-            put_with_parents(alloc, host, request, beside, *path, bytes, keep)
+            put_with_parents(alloc, host, request, context, *path, bytes, keep)
         }
         TreeChange::Sync { path, rows } => {
-            synced(alloc, host, request, beside, *path, *rows, keep)
+            synced(alloc, host, request, context, *path, *rows, keep)
         }
     }
 }
@@ -63,7 +63,7 @@ fn change_taken<H: Host>(
     alloc: Global,
     host: &mut H,
     request: &Request<'_>,
-    beside: &mut Beside,
+    context: &mut Context,
     change: TreeChange<'_, &[u8], &[SyncRow<'_>]>,
     keep: Option<u32>,
 ) -> Result<(), Stop>
@@ -78,7 +78,7 @@ fn change_taken<H: Host>(
 {
     let handed = taken_up(alloc, host, StepKind::Changes, 0, request.image)?;
     let step = Step::Tree { change, keep };
-    stepped(alloc, host, request, beside, handed, step)
+    stepped(alloc, host, request, context, handed, step)
 }
 
 /// The bytes of a source of contents: those that are said, or those that were read of it.
@@ -96,7 +96,7 @@ fn put_with_parents<'a, H: Host>(
     alloc: Global,
     host: &mut H,
     request: &Request<'_>,
-    beside: &mut Beside,
+    context: &mut Context,
     path: &'a [u8],
     source: &'a Source<'a>,
     keep: Option<u32>,
@@ -109,7 +109,7 @@ fn put_with_parents<'a, H: Host>(
     let handed = taken_up(alloc, host, StepKind::Changes, 0, request.image)?;
     let read = source_read(alloc, host, source)?;
     let bytes = contents_of(source, read.as_slice());
-    put_taken(alloc, host, request, beside, handed, path, bytes, keep)
+    put_taken(alloc, host, request, context, handed, path, bytes, keep)
 }
 
 /// The same with the contents in hand, and the image's files.
@@ -117,7 +117,7 @@ fn put_taken<'a, H: Host>(
     alloc: Global,
     host: &mut H,
     request: &Request<'_>,
-    beside: &mut Beside,
+    context: &mut Context,
     handed: Handed,
     path: &'a [u8],
     bytes: &'a [u8],
@@ -136,7 +136,7 @@ fn put_taken<'a, H: Host>(
 {
     let change = TreeChange::Put { path, bytes };
     let step = Step::Tree { change, keep };
-    stepped(alloc, host, request, beside, handed, step)
+    stepped(alloc, host, request, context, handed, step)
 }
 
 /// Makes what stands at a path like a folder of the host, which is read first.
@@ -144,7 +144,7 @@ fn synced<H: Host>(
     alloc: Global,
     host: &mut H,
     request: &Request<'_>,
-    beside: &mut Beside,
+    context: &mut Context,
     path: &[u8],
     dir: &str,
     keep: Option<u32>,
@@ -160,5 +160,5 @@ fn synced<H: Host>(
         path,
         rows: rows.as_slice(),
     };
-    change_taken(alloc, host, request, beside, change, keep)
+    change_taken(alloc, host, request, context, change, keep)
 }

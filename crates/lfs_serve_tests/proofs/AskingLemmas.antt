@@ -1,5 +1,6 @@
 -- What asks changes no file, however it ends.
 use Rattle.std.proofs.Common.{◌≡◌, ◌⊎◌, ℕ, Bool, List, Option, Some, None, refl, subst, inl, inr}
+use Rattle.lfs_json.specs.declared.form.Form.{Form}
 use Rattle.lfs_request.specs.declared.fault.Fault.{Fault}
 use Rattle.lfs_request.specs.declared.fault.Fault.TheVariants.{Refused}
 use Rattle.lfs_request.specs.declared.manner.Manner.{Manner}
@@ -45,28 +46,28 @@ all_left kind old new name o (inl asks) leaves = subst (λ (k : StepKind). Leave
 all_left kind old new name o (inr asks) leaves = subst (λ (k : StepKind). LeavesFiles k old new name o) asks leaves
 
 -- what asks is of one of two kinds
-asks_of : (q : Question) → (kind_of (Ask q) ≡ Asks) ⊎ (kind_of (Ask q) ≡ Recounts)
-asks_of query.Check = inl refl
-asks_of (query.Ls path) = inl refl
-asks_of (query.Blocks sums) = inl refl
-asks_of (query.Cat path) = inl refl
-asks_of (query.Diff other size quiet) = inl refl
-asks_of query.Log = inr refl
+asks_of : (q : Question) (form : Form) → (kind_of (Ask q form) ≡ Asks) ⊎ (kind_of (Ask q form) ≡ Recounts)
+asks_of query.Check form = inl refl
+asks_of (query.Ls path digests) form = inl refl
+asks_of (query.Blocks sums) form = inl refl
+asks_of (query.Cat path) form = inl refl
+asks_of (query.Diff other size quiet) form = inl refl
+asks_of query.Log form = inr refl
 
 step_keeps : (fault : Option Fault) (step : Step) (manner : Manner) (size : ℕ) (name : List ℕ) (old new : Scene)
     → (kind_of step ≡ Asks) ⊎ (kind_of step ≡ Recounts) → EndsStep step manner size name old new fault → new.files ≡ old.files
 step_keeps None step manner size name old new asks (o, runs, leaves, flushed) = all_left (kind_of step) old.files new.files name o asks leaves
 step_keeps (Some fault) step manner size name old new asks (inl (o, runs, same, handed)) = same
 step_keeps (Some fault) step manner size name old new asks (inr (inl (why, keeps))) = keeps.0
-step_keeps (Some fault) step manner size name old new asks (inr (inr (unwritten, (answered, whole, o, runs, spares)))) =
+step_keeps (Some fault) step manner size name old new asks (inr (inr (unwritten, (answered, complete, o, runs, spares)))) =
     all_spared fault (kind_of step) new.has_refused_place old.files new.files name o asks spares
 
 task_keeps : (fault : Option Fault) (t : Task) (older : Bool) (size : ℕ) (name : List ℕ) (old new : Scene) → OnlyAsks t
     → EndsTask t older size name old new fault → new.files ≡ old.files
-task_keeps fault (task.Ask query view) older size name old new asks (inl (Ask question, becomes, ends)) =
-    step_keeps fault (Ask question) (manner_of (task.Ask query view) older) size name old new (asks_of question) ends
-task_keeps fault (task.Ask query view) older size name old new asks (inl (_, becomes, ends)) = absurd becomes
-task_keeps fault (task.Ask query view) older size name old new asks (inr (keeps, why)) = keeps.0
+task_keeps fault (task.Ask query form view) older size name old new asks (inl (Ask question said, becomes, ends)) =
+    step_keeps fault (Ask question said) (manner_of (task.Ask query form view) older) size name old new (asks_of question said) ends
+task_keeps fault (task.Ask query form view) older size name old new asks (inl (_, becomes, ends)) = absurd becomes
+task_keeps fault (task.Ask query form view) older size name old new asks (inr (keeps, why)) = keeps.0
 task_keeps fault (task.Extract dir path view) older size name old new asks ends = ends.0.0
 task_keeps fault (task.Salvage dir view) older size name old new asks ends = ends.0.0
 task_keeps fault _ older size name old new only ends = absurd only
@@ -82,7 +83,7 @@ asking_keeps request old new status only is =
 
 -- and its caller owes nothing more
 pub asking_in_range : (t : Task) → OnlyAsks t → IsTaskInRange t
-asking_in_range (task.Ask query view) only = tt
+asking_in_range (task.Ask query form view) only = tt
 asking_in_range (task.Extract dir path view) only = tt
 asking_in_range (task.Salvage dir view) only = tt
 asking_in_range _ only = absurd only

@@ -41,27 +41,27 @@ node_is_known None (n ∷ names) = λ other. cc
 -- what is below is there
 pub below_is_there : (tree : HostTree) → HasNoGap tree → (name : List ℕ) (path : Path) → path ≢ [] → IsBelow tree name path
     → tree (host_name name path) ≢ NothingThere
-below_is_there tree whole name [] other below = absurd (other refl)
-below_is_there tree whole name (n ∷ []) other (names, folder, there, end) =
-    subst (λ (x : List ℕ). tree (name ++ x) ≢ NothingThere) (sym (append-nil (47 ∷ n))) (whole name n names folder there)
-below_is_there tree whole name (n ∷ (m ∷ path)) other (names, folder, there, rest) =
+below_is_there tree complete name [] other below = absurd (other refl)
+below_is_there tree complete name (n ∷ []) other (names, folder, there, end) =
+    subst (λ (x : List ℕ). tree (name ++ x) ≢ NothingThere) (sym (append-nil (47 ∷ n))) (complete name n names folder there)
+below_is_there tree complete name (n ∷ (m ∷ path)) other (names, folder, there, rest) =
     subst (λ (x : List ℕ). tree x ≢ NothingThere) (append_assoc name (47 ∷ n) (flat_map (λ n. 47 ∷ n) (m ∷ path)))
-    (below_is_there tree whole (name_in name n) (m ∷ path) (λ none. cc) rest)
+    (below_is_there tree complete (name_in name n) (m ∷ path) (λ none. cc) rest)
 
 -- why a folder of a host in memory isn't read
 refuses_by : (tree : HostTree) (dir : List ℕ) (scene : Scene) (new : MemoryHost) (fault : FolderFault) → HasNoGap tree
     → ((name : List ℕ) → tree name ≢ OtherThere) → (HasRefused scene → new.has_refused ≡ true) → RefusesTree tree dir fault
     → BlamesHost (Some tree) dir scene fault → RefusesInMemory tree dir new fault
-refuses_by tree dir scene new HostEntry whole known noted (path, below, other, there) blamed = absurd (known (host_name dir path) there)
-refuses_by tree dir scene new CannotRead whole known noted why (inl refused) = inl (noted refused)
-refuses_by tree dir scene new CannotRead whole known noted why (inr (inl (path, below, other, gap))) =
-    absurd (below_is_there tree whole dir path other below gap)
-refuses_by tree dir scene new CannotRead whole known noted why (inr (inr many)) = inr many
-refuses_by tree dir scene new HostName whole known noted why blamed = tt
-refuses_by tree dir scene new Memory whole known noted why blamed = tt
+refuses_by tree dir scene new HostEntry complete known noted (path, below, other, there) blamed = absurd (known (host_name dir path) there)
+refuses_by tree dir scene new CannotRead complete known noted why (inl refused) = inl (noted refused)
+refuses_by tree dir scene new CannotRead complete known noted why (inr (inl (path, below, other, gap))) =
+    absurd (below_is_there tree complete dir path other below gap)
+refuses_by tree dir scene new CannotRead complete known noted why (inr (inr many)) = inr many
+refuses_by tree dir scene new HostName complete known noted why blamed = tt
+refuses_by tree dir scene new Memory complete known noted why blamed = tt
 
 pub refuses_in_memory : {T : Type 0} (tree : HostTree) (dir : List ℕ) (scene : Scene) (new : MemoryHost) (rows : Result T FolderFault) → HasNoGap tree
     → ((name : List ℕ) → tree name ≢ OtherThere) → (HasRefused scene → new.has_refused ≡ true) → IfErr rows (λ fault. RefusesTree tree dir fault)
     → IfErr rows (λ fault. BlamesHost (Some tree) dir scene fault) → IfErr rows (λ fault. RefusesInMemory tree dir new fault)
-refuses_in_memory tree dir scene new (Ok rows) whole known noted why blamed = tt
-refuses_in_memory tree dir scene new (Err fault) whole known noted why blamed = refuses_by tree dir scene new fault whole known noted why blamed
+refuses_in_memory tree dir scene new (Ok rows) complete known noted why blamed = tt
+refuses_in_memory tree dir scene new (Err fault) complete known noted why blamed = refuses_by tree dir scene new fault complete known noted why blamed

@@ -10,9 +10,7 @@ use lfs_serve::served;
 use std::alloc::Global;
 
 /// Asks something of an image in memory, and answers the status. However it ends, no file changes: a law of requests on
-/// files that are known. The caller owes a task that asks, or makes a folder. Takes memory.
-///
-/// Source: own.
+/// files that are known. Takes memory.
 pub fn ask_in_memory(alloc: Global, host: &mut MemoryHost, request: &Request<'_>) -> u8
     requires { OnlyAsks request.now.task }
     ensures kept { files_of host.new.files ≡ files_of host.old.files }

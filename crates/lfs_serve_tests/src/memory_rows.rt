@@ -12,8 +12,6 @@ use std::alloc::Global;
 
 /// What is below a folder of a host in memory, all of it and nothing else; its files stay. A law of folders that are known: what
 /// can't be read is blamed on nothing but a refusal of the host, or on more files than an image can hold. Takes memory.
-///
-/// Source: own.
 pub fn rows_in_memory(
     alloc: Global,
     host: &mut MemoryHost,

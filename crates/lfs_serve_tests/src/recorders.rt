@@ -152,7 +152,7 @@ fn makes_in(alloc: Global, room: usize, is_made: bool) -> bool {
 }
 
 #[test]
-fn a_file_is_made_whole_or_not_at_all(rt: HostRuntime) {
+fn a_file_is_made_complete_or_not_at_all(rt: HostRuntime) {
     assert!(rt; makes_in(rt.alloc(), 4, false));
     assert!(rt; makes_in(rt.alloc(), 5, true));
 }

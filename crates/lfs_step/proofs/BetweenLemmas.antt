@@ -7,7 +7,7 @@ use Rattle.lfs_block.specs.Overlay.{IsOverlay}
 use Rattle.lfs_block.specs.Patch.{ChangeSet, IsGrowth, AgreesOld, AgreesNew, applied, reverted}
 use Rattle.lfs_history.specs.History.{GoesBack, GoesForward, past_of, future_of}
 use Rattle.lfs_history.proofs.MoveLemmas.{TakeBack, Make, latest}
-use Rattle.lfs_journal.proofs.PlaceLemmas.{IsAt, is_at}
+use Rattle.lfs_session.proofs.PlaceLemmas.{IsAt, is_at}
 use Rattle.lfs_step.specs.Between.{IsBetween, images_at, later_at}
 
 -- the change that is read at a place stands there

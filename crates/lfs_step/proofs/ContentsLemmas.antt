@@ -23,7 +23,7 @@ use Rattle.lfs_command.specs.declared.refusal.Refusal.TheVariants.{NotFound, Not
 use Rattle.lfs_command.specs.declared.refusal.Refusal.TheVariants.{Memory, Exists, IsADirectory, NotEmpty, NameTooLong, FileTooLarge}
 use Rattle.lfs_command.specs.declared.refusal.Refusal.TheVariants.{IntoItself, IsRoot, NoSpace, BadCount}
 use Rattle.lfs_command.specs.Command.{SetAttr}
-use Rattle.lfs_law.specs.HomeChecks.{entry_checks, there_checks}
+use Rattle.lfs_law.specs.ParentChecks.{entry_checks, there_checks}
 use Rattle.lfs_law.specs.JudgedAlike.{OutlinesAreJudgedAlike}
 use Rattle.lfs_command.specs.Verdict.{checks, first_refusal, refuse_if, walk_refusal_at, walk_refusal, is_directory}
 use Rattle.lfs_edit.proofs.VerdictKinds.{IsOfVerdict, MayBeOfVerdict, of_first, of_test, of_walk}
@@ -167,7 +167,7 @@ module _ (shows : RowsShowTheTree) (d : Disk) (disk : IsDisk d) (m : MountedValu
   pub there_listed : (e : Entry) → entry_at m.outline path ≡ Some e → IsThere d m text path
   there_listed e at = record {
     spelled = spelled;
-    there = λ mounts. ap is_some (shows d m mounts (record { path = path; entry = e }) disk (mounts.rows.whole path e at)).0;
+    there = λ mounts. ap is_some (shows d m mounts (record { path = path; entry = e }) disk (mounts.rows.complete path e at)).0;
   }
 
   pub root_listed : path ≡ [] → IsThere d m text path
@@ -187,7 +187,7 @@ module _ (shows : RowsShowTheTree) (d : Disk) (disk : IsDisk d) (m : MountedValu
 
   module _ (e : Entry) (at : entry_at m.outline path ≡ Some e) where
     here : (tree is.volume path ≡ Some (shown_node d e)) × HasBlocks d e.body
-    here = shows d m is (record { path = path; entry = e }) disk (is.rows.whole path e at)
+    here = shows d m is (record { path = path; entry = e }) disk (is.rows.complete path e at)
 
     pub has_blocks : HasBlocks d e.body
     has_blocks = here.1

@@ -14,7 +14,7 @@ use Rattle.lfs_fs.specs.Mounted.{MountedValue, IsMountOf}
 use Rattle.lfs_command.specs.declared.refusal.Refusal.{Refusal}
 use Rattle.lfs_command.specs.declared.refusal.Refusal.TheVariants.{NotFound, NotADirectory}
 use Rattle.lfs_command.specs.Verdict.{first_refusal, is_directory, refuse_if, walk_refusal}
-use Rattle.lfs_law.specs.HomeChecks.{entry_checks, there_checks}
+use Rattle.lfs_law.specs.ParentChecks.{entry_checks, there_checks}
 use Rattle.lfs_law.specs.JudgedAlike.{OutlinesAreJudgedAlike}
 use Rattle.lfs_edit.proofs.VerdictKinds.{IsOfVerdict, MayBeOfVerdict, of_test, of_walk}
 use Rattle.lfs_edit.proofs.Verdicts.{refused_first}
@@ -76,7 +76,7 @@ module _ (shows : RowsShowTheTree) (d : Disk) (disk : IsDisk d) (m : MountedValu
 
   module _ (e : Entry) (at : entry_at m.outline path ≡ Some e) where
     here : (mounts : IsMountOf d m) → tree mounts.volume path ≡ Some (shown_node d e)
-    here mounts = (shows d m mounts (record { path = path; entry = e }) disk (mounts.rows.whole path e at)).0
+    here mounts = (shows d m mounts (record { path = path; entry = e }) disk (mounts.rows.complete path e at)).0
 
     pub file_there : is_some (target e) ≡ false → RefusesDirectory d text NotADirectory
     file_there none =

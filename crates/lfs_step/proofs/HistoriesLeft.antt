@@ -1,7 +1,7 @@
 -- What a step leaves denotes the history to which it leads.
 use Rattle.std.proofs.Common.{◌≡◌, ◌∷◌, ℕ, List, [], Option, map, refl, sym, subst, arith}
 use Rattle.lfs_block.specs.Disk.{Disk, IsDisk, image_of}
-use Rattle.lfs_book.specs.Book.{book_of, journal_bytes}
+use Rattle.lfs_journal.specs.Book.{book_of, journal_bytes}
 use Rattle.lfs_edit.specs.Formatted.{disk_with}
 use Rattle.lfs_history.specs.Batch.{TakesAll}
 use Rattle.lfs_history.specs.History.{History, IsHistory, IsMounted, fresh_history}
@@ -81,7 +81,7 @@ steps_leave_histories one opens denoted (Format count limits) g outcome (formatt
 steps_leave_histories one opens denoted (Pack count limits rows) g outcome (is, empty) = λ packed are.
     let packs = is packed are in
     begins opens g.size count outcome.image.items outcome.journal.items packs.disk (packs.volume, packs.holds, packs.sound) empty
-steps_leave_histories one opens denoted (Ask query) g outcome both = λ old denotes. asked_leaves g outcome both old denotes
+steps_leave_histories one opens denoted (Ask query form) g outcome both = λ old denotes. asked_leaves g outcome both old denotes
 steps_leave_histories one opens denoted Forget g outcome forgotten = forgets opens g outcome forgotten
 steps_leave_histories one opens denoted (Change steps) g outcome changes = λ old denotes.
     let moves = map step_of steps.now in

@@ -10,13 +10,14 @@ use Rattle.lfs_fs.specs.Cause.{HasCause}
 use Rattle.lfs_fs.specs.Mounted.{MountedValue, IsMountOf}
 use Rattle.lfs_fs.specs.Mounts.{MountedHaveNoCause}
 use Rattle.lfs_fs.specs.Tree.{tree}
-use Rattle.lfs_book.specs.Book.{book_of}
+use Rattle.lfs_journal.specs.Book.{book_of}
 use Rattle.lfs_history.specs.declared.open_fault.OpenFault.{OpenFault}
 use Rattle.lfs_history.specs.declared.open_fault.OpenFault.TheVariants.{Mount, JournalFormat, JournalMismatch, JournalImage}
 use Rattle.lfs_history.specs.History.{History, IsMounted, history_at, past_of, future_of}
 use Rattle.lfs_history.specs.Opening.{Opens, RefusesOpening, HasSomeCause}
-use Rattle.lfs_journal.specs.Opened.{DenotesChanges, RefusesMounts}
-use Rattle.lfs_journal.proofs.OpeningLemmas.{others_refused}
+use Rattle.lfs_json.specs.declared.form.Form.{Form}
+use Rattle.lfs_session.specs.Opened.{DenotesChanges, RefusesMounts}
+use Rattle.lfs_session.proofs.OpeningLemmas.{others_refused}
 use Rattle.lfs_step.specs.Between.{TellsAll, images_at}
 use Rattle.lfs_step.specs.Log.{IsLog, log_from}
 
@@ -51,9 +52,9 @@ each_mounts (d ∷ ds) [] are = absurd are
 
 -- ---- all are told
 
-pub logged : (d : Disk) (bytes : List ℕ) (ps : List ChangeSet) (done : ℕ) (old new : List ℕ) → DenotesChanges d bytes ps done → old ≡ []
-    → TellsAll d ps done done old new → (h : History) × Opens d bytes h × IsLog h new
-logged d bytes ps done old new is empty told =
+pub logged : (form : Form) (d : Disk) (bytes : List ℕ) (ps : List ChangeSet) (done : ℕ) (old new : List ℕ) → DenotesChanges d bytes ps done → old ≡ []
+    → TellsAll form d ps done done old new → (h : History) × Opens d bytes h × IsLog form h new
+logged form d bytes ps done old new is empty told =
     let past = past_of (reverse (take done ps)) d in
     let future = future_of (drop done ps) d in
     let both = each_both IsMounted (reverse past) (d ∷ future) (each_mounts (images_at d ps done) told.mounts told.are) in (
@@ -78,8 +79,8 @@ logged d bytes ps done old new is empty told =
       record {
         mounts = told.mounts;
         are = told.are;
-        text_is = told.text ∙ ap (λ (xs : List ℕ). xs ++ log_from 1 done (images_at d ps done) told.mounts) empty
-            ∙ ap (λ (n : ℕ). log_from 1 n (images_at d ps done) told.mounts) (sym (length-take-le done ps is.within));
+        text_is = told.text ∙ ap (λ (xs : List ℕ). xs ++ log_from form 1 done (images_at d ps done) told.mounts) empty
+            ∙ ap (λ (n : ℕ). log_from form 1 n (images_at d ps done) told.mounts) (sym (length-take-le done ps is.within));
       },
     )
 

@@ -6,6 +6,7 @@ use Rattle.lfs_block.specs.Disk.{Disk, IsDisk, image_of}
 use Rattle.lfs_request.specs.declared.fault.Fault.{Fault}
 use Rattle.lfs_request.specs.declared.fault.Fault.TheVariants.{Image}
 use Rattle.lfs_request.specs.declared.outcome.Outcome.{Outcome}
+use Rattle.lfs_json.specs.declared.form.Form.{Form}
 use Rattle.lfs_block.proofs.BytesLemmas.{at_bytes}
 use Rattle.lfs_request.specs.declared.query.Query.TheVariants.{Check, Ls, Blocks, Cat, Diff, Log}
 use Rattle.lfs_step.specs.declared.step.Step.{Step}
@@ -20,37 +21,37 @@ AnswersBy fault step g outcome =
     MatchOption fault (AnswersDone step g outcome) (λ why. KeepsBoth g outcome × Refuses step g outcome.at why)
 
 -- an image isn't refused as bytes are
-no_image : (q : Question) (d : Disk) (journal : List ℕ) (f : _) → RefusesAsked q d journal (Image f) → ⊥
-no_image Check d journal f refuses = refuses
-no_image (Ls path) d journal f refuses = refuses
-no_image (Blocks sums) d journal f refuses = refuses
-no_image (Cat path) d journal f refuses = refuses
-no_image (Diff other size quiet) d journal f refuses = refuses.1
-no_image Log d journal f refuses = refuses
+no_image : (q : Question) (form : Form) (d : Disk) (journal : List ℕ) (f : _) → RefusesAsked q form d journal (Image f) → ⊥
+no_image Check form d journal f refuses = refuses
+no_image (Ls path digests) form d journal f refuses = refuses
+no_image (Blocks sums) form d journal f refuses = refuses
+no_image (Cat path) form d journal f refuses = refuses
+no_image (Diff other size quiet) form d journal f refuses = refuses.1
+no_image Log form d journal f refuses = refuses
 
-refused_bytes : (q : Question) (size : ℕ) (bytes journal : List ℕ) (fault : Fault)
-    → IsDisk (image_of size bytes) × RefusesAsked q (image_of size bytes) journal fault → RefusesQuery q size bytes journal fault
-refused_bytes q size bytes journal (Image fault) refuses = absurd (no_image q (image_of size bytes) journal fault refuses.1)
-refused_bytes q size bytes journal fault refuses = refuses
+refused_bytes : (q : Question) (form : Form) (size : ℕ) (bytes journal : List ℕ) (fault : Fault)
+    → IsDisk (image_of size bytes) × RefusesAsked q form (image_of size bytes) journal fault → RefusesQuery q form size bytes journal fault
+refused_bytes q form size bytes journal (Image fault) refuses = absurd (no_image q form (image_of size bytes) journal fault refuses.1)
+refused_bytes q form size bytes journal fault refuses = refuses
 
-answered : {T : Type 0} (q : Question) (d : Disk) (size : ℕ) (bytes journal : List ℕ) (reported : Result T Fault) (o : Outcome) → IsDisk d
-    → d.size ≡ size → d.bytes ≡ bytes → IfErr reported (λ f. RefusesAsked q d journal f) → o.image.items ≡ bytes → o.journal.items ≡ journal
-    → AnswersBy (result_err reported) (Ask q) (given size bytes journal) o
-answered q d size bytes journal (Ok x) o is sizes same refuses image kept = (image, kept)
-answered q d size bytes journal (Err f) o is sizes same refuses image kept = (
+answered : {T : Type 0} (q : Question) (form : Form) (d : Disk) (size : ℕ) (bytes journal : List ℕ) (reported : Result T Fault) (o : Outcome) → IsDisk d
+    → d.size ≡ size → d.bytes ≡ bytes → IfErr reported (λ f. RefusesAsked q form d journal f) → o.image.items ≡ bytes → o.journal.items ≡ journal
+    → AnswersBy (result_err reported) (Ask q form) (given size bytes journal) o
+answered q form d size bytes journal (Ok x) o is sizes same refuses image kept = (image, kept)
+answered q form d size bytes journal (Err f) o is sizes same refuses image kept = (
   (image, kept),
-  refused_bytes q size bytes journal f
-      (at_bytes d size bytes (λ x. IsDisk x × RefusesAsked q x journal f) is sizes same (is, refuses)),
+  refused_bytes q form size bytes journal f
+      (at_bytes d size bytes (λ x. IsDisk x × RefusesAsked q form x journal f) is sizes same (is, refuses)),
 )
 
-pub query_answers : {T : Type 0} (q : Question) (size : ℕ) (bytes journal : List ℕ) (d : Disk) (reported : Result T Fault) (o : Outcome)
-    → IsDisk d → d.size ≡ size → d.bytes ≡ bytes → IfErr reported (λ f. RefusesAsked q d journal f) → o.fault ≡ result_err reported
-    → o.image.items ≡ bytes → o.journal.items ≡ journal → Answers (Ask q) (given size bytes journal) o
-query_answers q size bytes journal d reported o is sizes same refuses fault_is image kept =
-    subst (λ (x : Option Fault). AnswersBy x (Ask q) (given size bytes journal) o) (sym fault_is)
-    (answered q d size bytes journal reported o is sizes same refuses image kept)
+pub query_answers : {T : Type 0} (q : Question) (form : Form) (size : ℕ) (bytes journal : List ℕ) (d : Disk) (reported : Result T Fault) (o : Outcome)
+    → IsDisk d → d.size ≡ size → d.bytes ≡ bytes → IfErr reported (λ f. RefusesAsked q form d journal f) → o.fault ≡ result_err reported
+    → o.image.items ≡ bytes → o.journal.items ≡ journal → Answers (Ask q form) (given size bytes journal) o
+query_answers q form size bytes journal d reported o is sizes same refuses fault_is image kept =
+    subst (λ (x : Option Fault). AnswersBy x (Ask q form) (given size bytes journal) o) (sym fault_is)
+    (answered q form d size bytes journal reported o is sizes same refuses image kept)
 
-pub query_sends : (q : Question) (size : ℕ) (bytes journal : List ℕ) (d : Disk) (f : Option Fault) (old new : Option (List ℕ)) → IsDisk d
-    → d.size ≡ size → d.bytes ≡ bytes → SendsAsked q d journal f old new → SendsAsked q (image_of size bytes) journal f old new
-query_sends q size bytes journal d f old new is sizes same sends =
-    at_bytes d size bytes (λ x. SendsAsked q x journal f old new) is sizes same sends
+pub query_sends : (q : Question) (form : Form) (size : ℕ) (bytes journal : List ℕ) (d : Disk) (f : Option Fault) (old new : Option (List ℕ)) → IsDisk d
+    → d.size ≡ size → d.bytes ≡ bytes → SendsAsked q form d journal f old new → SendsAsked q form (image_of size bytes) journal f old new
+query_sends q form size bytes journal d f old new is sizes same sends =
+    at_bytes d size bytes (λ x. SendsAsked q form x journal f old new) is sizes same sends

@@ -122,24 +122,24 @@ row_at at r = record { path = r.path; entry = unwrap_or (at r.path) (listed_row 
 
 -- what an outline has at each path is what the rows say
 abbrev Says : (Path → Option Entry) → (Path → Option Entry) → List Packed → Type 0
-Says at whole rows =
-    (p : Path) → (at p ≡ option_map outlined_entry (whole p)) × (option_map node (whole p) ≡ packed_at rows p)
+Says at complete rows =
+    (p : Path) → (at p ≡ option_map outlined_entry (complete p)) × (option_map node (complete p) ≡ packed_at rows p)
 
 -- an entry that is there, of which this is the outline
-record IsThere (at whole : Path → Option Entry) (rows : List Packed) (r : Packed) : Type 0 where
+record IsThere (at complete : Path → Option Entry) (rows : List Packed) (r : Packed) : Type 0 where
   entry : Entry
   there : at r.path ≡ Some (outlined_entry entry)
   shows : node entry ≡ packed_node r.bytes r.attributes
 
-entry_there : (at : Option Entry) (whole : Option Entry) (n : Node) → at ≡ option_map outlined_entry whole → option_map node whole ≡ Some n
+entry_there : (at : Option Entry) (complete : Option Entry) (n : Node) → at ≡ option_map outlined_entry complete → option_map node complete ≡ Some n
     → (e : Entry) × (at ≡ Some (outlined_entry e)) × (node e ≡ n)
 entry_there at None n is shows = absurd cc
 entry_there at (Some e) n is shows = (e, is, ap (λ (o : Option Node). unwrap_or o n) shows)
 
-is_there : (at whole : Path → Option Entry) (rows : List Packed) (r : Packed) → Says at whole rows
-    → packed_at rows r.path ≡ Some (packed_node r.bytes r.attributes) → IsThere at whole rows r
-is_there at whole rows r says is =
-    let e = entry_there (at r.path) (whole r.path) (packed_node r.bytes r.attributes) (says r.path).0 ((says r.path).1 ∙ is) in
+is_there : (at complete : Path → Option Entry) (rows : List Packed) (r : Packed) → Says at complete rows
+    → packed_at rows r.path ≡ Some (packed_node r.bytes r.attributes) → IsThere at complete rows r
+is_there at complete rows r says is =
+    let e = entry_there (at r.path) (complete r.path) (packed_node r.bytes r.attributes) (says r.path).0 ((says r.path).1 ∙ is) in
     record { entry = e.0; there = e.1; shows = e.2 }
 
 rows_rise : (at : Path → Option Entry) (rows : List Packed) → PackedRise rows → RowsRise (map (row_at at) rows)
@@ -148,15 +148,15 @@ rows_rise at (r ∷ rows) rise =
     (All-map (λ (s : Row). path_precedes r.path s.path ≡ true) (row_at at) rows rise.0, rows_rise at rows rise.1)
 
 -- the rows of the outline are those of what is packed
-are_rows : PathsAreOrdered → (at whole : Path → Option Entry) (rows : List Packed) → PackedRise rows → Says at whole rows
+are_rows : PathsAreOrdered → (at complete : Path → Option Entry) (rows : List Packed) → PackedRise rows → Says at complete rows
     → AreRows at (map (row_at at) rows)
-are_rows order at whole rows rise says = record {
+are_rows order at complete rows rise says = record {
   rise = rows_rise at rows rise;
   right = All-map (λ (s : Row). at s.path ≡ Some s.entry) (row_at at) rows (λ i d within.
       let r = get_or rows i d in
-      let here = is_there at whole rows r says (own order rows rise i d within) in
+      let here = is_there at complete rows r says (own order rows rise i d within) in
       here.there ∙ ap (λ (o : Option Entry). Some (unwrap_or o (listed_row r).entry)) (sym here.there));
-  whole = λ p e is.
+  complete = λ p e is.
       let there = shown_there p e is in
       let r = at_some rows p there.0 there.1 in
       let row : row_at at r.0 ≡ record { path = p; entry = e } =
@@ -171,7 +171,7 @@ are_rows order at whole rows rise says = record {
 
     shown_there : (p : Path) (e : Entry) → at p ≡ Some e → (n : Node) × (packed_at rows p ≡ Some n)
     shown_there p e is =
-        let n = shown_by (whole p) e (sym (says p).0 ∙ is) in
+        let n = shown_by (complete p) e (sym (says p).0 ∙ is) in
         (n.0, sym (says p).1 ∙ n.1)
 
 -- the lines of rows whose lines are the same, one by one
@@ -184,11 +184,11 @@ same_listing f g (r ∷ rows) same =
     (same_listing f g rows (All-tail (λ (s : Packed). row_lines (f s) ≡ row_lines (g s)) r rows same))
 
 -- they are listed as what is packed
-lists : PathsAreOrdered → (at whole : Path → Option Entry) (rows : List Packed) → PackedRise rows → Says at whole rows
+lists : PathsAreOrdered → (at complete : Path → Option Entry) (rows : List Packed) → PackedRise rows → Says at complete rows
     → listing (map (row_at at) rows) ≡ listing (map listed_row rows)
-lists order at whole rows rise says = same_listing (row_at at) listed_row rows (λ i d within.
+lists order at complete rows rise says = same_listing (row_at at) listed_row rows (λ i d within.
     let r = get_or rows i d in
-    let here = is_there at whole rows r says (own order rows rise i d within) in
+    let here = is_there at complete rows r says (own order rows rise i d within) in
     ap (λ (o : Option Entry). row_lines (record { path = r.path; entry = unwrap_or o (listed_row r).entry })) here.there
     ∙ lines_by r.path here.entry.name here.entry.body here.entry.attributes r.attributes r.bytes here.shows)
 
@@ -196,12 +196,12 @@ pub packed_images_list_their_rows : PathsAreOrdered → RowsAreUnique → TreesA
 packed_images_list_their_rows order unique one size count limits rows bytes m packable packed mount =
     let d = disk_with size count bytes in
     let at = entry_at m.outline in
-    let whole = entry_at mount.volume in
+    let complete = entry_at mount.volume in
     let mounted : Mounts d (tree mount.volume) = (mount.volume, mount.holds, mount.sound, λ p. refl) in
     let filled : Mounts d (tree packed.volume) = (packed.volume, packed.holds, packed.sound, λ p. refl) in
-    let says : Says at whole rows = λ p. (
+    let says : Says at complete rows = λ p. (
       ap (λ (v : Volume). entry_at v p) mount.outline ∙ outlined_at mount.volume p,
       one d (tree mount.volume) (tree packed.volume) mounted filled p ∙ packed.at p,
     ) in
-    let are = are_rows order at whole rows packable.rise says in
-    ap listing (unique at m.rows (map (row_at at) rows) mount.rows are) ∙ lists order at whole rows packable.rise says
+    let are = are_rows order at complete rows packable.rise says in
+    ap listing (unique at m.rows (map (row_at at) rows) mount.rows are) ∙ lists order at complete rows packable.rise says

@@ -10,6 +10,7 @@ use Rattle.lfs_fs.specs.Mounted.{MountedValue, IsMountOf}
 use Rattle.lfs_history.specs.declared.open_fault.OpenFault.{OpenFault}
 use Rattle.lfs_history.specs.History.{History, fresh_history}
 use Rattle.lfs_history.specs.Opening.{Opens}
+use Rattle.lfs_json.specs.declared.form.Form.{Form}
 use Rattle.lfs_request.specs.declared.fault.Fault.{Fault}
 use Rattle.lfs_request.specs.declared.fault.Fault.TheVariants as fault
 use Rattle.lfs_change.proofs.ChangeLemmas.{opened_denotes}
@@ -20,15 +21,15 @@ use Rattle.lfs_step.specs.Recounting.{IsRecount, RefusesRecount}
 -- ---- the text
 
 -- a journal that is there is told as its history
-pub log_told : (d : Disk) (journal : List ℕ) (r : Result (Vec ℕ) OpenFault) → journal ≢ []
-    → IfOk r (λ text. (h : History) × Opens d journal h × IsLog h text.items) → IfOk r (λ text. IsRecount d journal text.items)
-log_told d journal (Ok text) some (h, opens, log) =
+pub log_told : (form : Form) (d : Disk) (journal : List ℕ) (r : Result (Vec ℕ) OpenFault) → journal ≢ []
+    → IfOk r (λ text. (h : History) × Opens d journal h × IsLog form h text.items) → IfOk r (λ text. IsRecount form d journal text.items)
+log_told form d journal (Ok text) some (h, opens, log) =
     record { history = h; denotes = opened_denotes d journal h some opens; log = log }
-log_told d journal (Err f) some told = tt
+log_told form d journal (Err f) some told = tt
 
 -- without any, nothing was done to the image
-pub nothing_told : (d : Disk) (m : MountedValue) → IsDisk d → IsMountOf d m → IsRecount d [] []
-nothing_told d m is mount = record {
+pub nothing_told : (form : Form) (d : Disk) (m : MountedValue) → IsDisk d → IsMountOf d m → IsRecount form d [] []
+nothing_told form d m is mount = record {
   history = fresh_history d;
   denotes = (refl, fresh_is d is (mount.volume, mount.holds, mount.sound));
   log = record { mounts = m ∷ []; are = (mount, tt); text_is = refl };
@@ -43,17 +44,17 @@ no_bytes (byte ∷ bytes) is_none is none =
     let zero_long : length (byte ∷ bytes) ≡ 0 = eqb-true (length (byte ∷ bytes)) 0 (sym is ∙ none) in
     absurd (omega (arith, zero_long))
 
-pub empty_told : (d : Disk) (journal text : List ℕ) (m : MountedValue) (is_none : Bool) → is_none ≡ length journal == 0 → is_none ≡ true
-    → text ≡ [] → IsDisk d → IsMountOf d m → IsRecount d journal text
-empty_told d journal text m is_none is none empty disk mount =
-    subst (λ (j : List ℕ). IsRecount d j text) (no_bytes journal is_none is none)
-    (subst (λ (t : List ℕ). IsRecount d [] t) (sym empty) (nothing_told d m disk mount))
+pub empty_told : (form : Form) (d : Disk) (journal text : List ℕ) (m : MountedValue) (is_none : Bool) → is_none ≡ length journal == 0 → is_none ≡ true
+    → text ≡ [] → IsDisk d → IsMountOf d m → IsRecount form d journal text
+empty_told form d journal text m is_none is none empty disk mount =
+    subst (λ (j : List ℕ). IsRecount form d j text) (no_bytes journal is_none is none)
+    (subst (λ (t : List ℕ). IsRecount form d [] t) (sym empty) (nothing_told form d m disk mount))
 
 -- a text that didn't go out as a whole is told as that
-pub recount_unsent : (d : Disk) (journal text : List ℕ) (r : Result (Unit {0}) Fault) (whole : Bool)
-    → result_err r ≡ (if whole then None else Some fault.CannotWrite) → IsRecount d journal text → IfErr r (λ f. RefusesRecount d journal f)
-recount_unsent d journal text (Ok x) whole is told = tt
-recount_unsent d journal text (Err f) true is told = absurd cc
-recount_unsent d journal text (Err f) false is told =
+pub recount_unsent : (form : Form) (d : Disk) (journal text : List ℕ) (r : Result (Unit {0}) Fault) (complete : Bool)
+    → result_err r ≡ (if complete then None else Some fault.CannotWrite) → IsRecount form d journal text → IfErr r (λ f. RefusesRecount form d journal f)
+recount_unsent form d journal text (Ok x) complete is told = tt
+recount_unsent form d journal text (Err f) true is told = absurd cc
+recount_unsent form d journal text (Err f) false is told =
     let same : f ≡ fault.CannotWrite = ap (λ (o : Option Fault). unwrap_or o f) is in
-    subst (λ (x : Fault). RefusesRecount d journal x) (sym same) (text, told)
+    subst (λ (x : Fault). RefusesRecount form d journal x) (sym same) (text, told)

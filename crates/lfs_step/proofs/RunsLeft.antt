@@ -31,10 +31,10 @@ one_goes leaves None (Pack count limits rows) g outcome old (packed, are) denote
   goes = (refl, answers.0);
   leaves = leaves (Pack count limits rows) g outcome answers packed are;
 }
-one_goes leaves None (Ask query) g outcome old good denotes answers = record {
+one_goes leaves None (Ask query form) g outcome old good denotes answers = record {
   new = old;
   goes = refl;
-  leaves = leaves (Ask query) g outcome answers old denotes;
+  leaves = leaves (Ask query form) g outcome answers old denotes;
 }
 one_goes leaves None Forget g outcome old good denotes answers = record {
   new = fresh_history (image_of g.size g.image);

@@ -5,54 +5,55 @@ use Rattle.lfs_block.specs.Disk.{Disk}
 use Rattle.lfs_block.specs.Patch.{ChangeSet}
 use Rattle.lfs_fs.specs.Mounted.{MountedValue, IsMountOf}
 use Rattle.lfs_history.specs.declared.open_fault.OpenFault.{OpenFault}
-use Rattle.lfs_journal.specs.Opened.{RefusesMount, RefusesMounts}
-use Rattle.lfs_journal.proofs.OpeningLemmas.{first_refused, later_refused}
+use Rattle.lfs_session.specs.Opened.{RefusesMount, RefusesMounts}
+use Rattle.lfs_session.proofs.OpeningLemmas.{first_refused, later_refused}
+use Rattle.lfs_json.specs.declared.form.Form.{Form}
 use Rattle.lfs_listing.specs.Difference.{difference}
 use Rattle.lfs_step.specs.Between.{TellsAll, TellsOn, images_at, later_at}
 use Rattle.lfs_step.specs.Log.{change_line, log_behind, log_from}
 
 -- nothing is told behind the last image
-pub tells_none : (d : Disk) (m : MountedValue) (ps : List ChangeSet) (at done : ℕ) (old : List ℕ) → later_at d ps at ≡ []
-    → TellsOn d m ps at done old old
-tells_none d m ps at done old none = record {
+pub tells_none : (form : Form) (d : Disk) (m : MountedValue) (ps : List ChangeSet) (at done : ℕ) (old : List ℕ) → later_at d ps at ≡ []
+    → TellsOn form d m ps at done old old
+tells_none form d m ps at done old none = record {
   mounts = [];
   are = subst (λ (es : List Disk). AllZip IsMountOf es []) (sym none) tt;
-  text = sym (append-nil old) ∙ ap (λ (es : List Disk). old ++ log_behind (at + 1) done d m es []) (sym none);
+  text = sym (append-nil old) ∙ ap (λ (es : List Disk). old ++ log_behind form (at + 1) done d m es []) (sym none);
 }
 
 -- a change is told, and then those behind it
-pub tells_next : (d e : Disk) (m k : MountedValue) (ps : List ChangeSet) (i j done : ℕ) (old mid new : List ℕ) → j ≡ i + 1
+pub tells_next : (form : Form) (d e : Disk) (m k : MountedValue) (ps : List ChangeSet) (i j done : ℕ) (old mid new : List ℕ) → j ≡ i + 1
     → later_at d ps i ≡ e ∷ later_at e ps j → IsMountOf e k
-    → mid ≡ old ++ change_line (i + 1) done ++ difference d m.rows e k.rows
-    → TellsOn e k ps j done mid new → TellsOn d m ps i done old new
-tells_next d e m k ps i j done old mid new next later mounts line told =
+    → mid ≡ old ++ change_line form (i + 1) done ++ difference form d m.rows e k.rows
+    → TellsOn form e k ps j done mid new → TellsOn form d m ps i done old new
+tells_next form d e m k ps i j done old mid new next later mounts line told =
     let es = later_at e ps j in
-    let rest = log_behind (j + 1) done e k es told.mounts in
-    let change = change_line (i + 1) done in
-    let differs = difference d m.rows e k.rows in
+    let rest = log_behind form (j + 1) done e k es told.mounts in
+    let change = change_line form (i + 1) done in
+    let differs = difference form d m.rows e k.rows in
     let both : mid ≡ old ++ (change ++ differs) = line ∙ append_assoc old change differs in
     record {
       mounts = k ∷ told.mounts;
       are = subst (λ (ds : List Disk). AllZip IsMountOf ds (k ∷ told.mounts)) (sym later) (mounts, told.are);
       text = told.text ∙ ap (λ (xs : List ℕ). xs ++ rest) both ∙ append_assoc old (change ++ differs) rest
-          ∙ ap (λ (n : ℕ). old ++ (change ++ differs ++ log_behind (n + 1) done e k es told.mounts)) next
-          ∙ ap (λ (ds : List Disk). old ++ log_behind (i + 1) done d m ds (k ∷ told.mounts)) (sym later);
+          ∙ ap (λ (n : ℕ). old ++ (change ++ differs ++ log_behind form (n + 1) done e k es told.mounts)) next
+          ∙ ap (λ (ds : List Disk). old ++ log_behind form (i + 1) done d m ds (k ∷ told.mounts)) (sym later);
     }
 
 -- all are told from the oldest image on
-pub tells_first : (d : Disk) (m : MountedValue) (ps : List ChangeSet) (at done : ℕ) (old new : List ℕ) → at ≡ 0 → IsMountOf d m
-    → TellsOn d m ps 0 done old new → TellsAll d ps at done old new
-tells_first d m ps at done old new first mounts told =
-    subst (λ (n : ℕ). TellsAll d ps n done old new) (sym first)
+pub tells_first : (form : Form) (d : Disk) (m : MountedValue) (ps : List ChangeSet) (at done : ℕ) (old new : List ℕ) → at ≡ 0 → IsMountOf d m
+    → TellsOn form d m ps 0 done old new → TellsAll form d ps at done old new
+tells_first form d m ps at done old new first mounts told =
+    subst (λ (n : ℕ). TellsAll form d ps n done old new) (sym first)
     (record { mounts = m ∷ told.mounts; are = (mounts, told.are); text = told.text })
 
 -- and so they are from the image before a change
-pub tells_back : (d e : Disk) (ps : List ChangeSet) (i j done : ℕ) (old new : List ℕ) → images_at e ps i ≡ images_at d ps j
-    → TellsAll e ps i done old new → TellsAll d ps j done old new
-tells_back d e ps i j done old new images told = record {
+pub tells_back : (form : Form) (d e : Disk) (ps : List ChangeSet) (i j done : ℕ) (old new : List ℕ) → images_at e ps i ≡ images_at d ps j
+    → TellsAll form e ps i done old new → TellsAll form d ps j done old new
+tells_back form d e ps i j done old new images told = record {
   mounts = told.mounts;
   are = subst (λ (es : List Disk). AllZip IsMountOf es told.mounts) images told.are;
-  text = told.text ∙ ap (λ (es : List Disk). old ++ log_from 1 done es told.mounts) images;
+  text = told.text ∙ ap (λ (es : List Disk). old ++ log_from form 1 done es told.mounts) images;
 }
 
 -- the image after a change isn't mounted, or one behind it

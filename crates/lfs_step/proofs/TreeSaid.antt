@@ -20,7 +20,7 @@ use Rattle.lfs_command.specs.Equation.{attributes_at}
 use Rattle.lfs_command.specs.PathMap.{below, same_path}
 use Rattle.lfs_command.specs.Planned.{Plans}
 use Rattle.lfs_command.specs.Verdict.{is_directory, is_root, refuse_if, verdict, walk_refusal}
-use Rattle.lfs_law.proofs.Homes.{first_passes, test_passes}
+use Rattle.lfs_law.proofs.Parents.{first_passes, test_passes}
 use Rattle.lfs_law.proofs.PathMapLemmas.{below_self}
 use Rattle.lfs_request.specs.declared.tree_change.TreeChange.TheVariants as change
 use Rattle.lfs_sync.specs.Planned.{in_texts}

@@ -6,6 +6,7 @@ use Rattle.lfs_block.specs.Patch.{ChangeSet}
 use Rattle.lfs_fs.specs.Mounted.{MountedValue, IsMountOf}
 use Rattle.lfs_history.specs.History.{GoesBack, GoesForward, future_of, history_at}
 use Rattle.lfs_history.specs.Laws.{images}
+use Rattle.lfs_json.specs.declared.form.Form.{Form}
 use Rattle.lfs_step.specs.Log.{log_behind, log_from}
 
 -- the image stands behind so many of the changes: they lead back from it, and the others on
@@ -24,13 +25,13 @@ abbrev pub later_at : Disk → List ChangeSet → ℕ → List Disk
 later_at d patches at = future_of (drop at patches) d
 
 -- all images mount, and a text was added that tells all changes, of which so many are done
-pub record TellsAll (d : Disk) (patches : List ChangeSet) (at done : ℕ) (old new : List ℕ) : Type 0 where
+pub record TellsAll (form : Form) (d : Disk) (patches : List ChangeSet) (at done : ℕ) (old new : List ℕ) : Type 0 where
   pub mounts : List MountedValue
   pub are : AllZip IsMountOf (images_at d patches at) mounts
-  pub text : new ≡ old ++ log_from 1 done (images_at d patches at) mounts
+  pub text : new ≡ old ++ log_from form 1 done (images_at d patches at) mounts
 
 -- all images behind one mount, and a text was added that tells the changes from there on; it mounts to the first value
-pub record TellsOn (d : Disk) (m : MountedValue) (patches : List ChangeSet) (at done : ℕ) (old new : List ℕ) : Type 0 where
+pub record TellsOn (form : Form) (d : Disk) (m : MountedValue) (patches : List ChangeSet) (at done : ℕ) (old new : List ℕ) : Type 0 where
   pub mounts : List MountedValue
   pub are : AllZip IsMountOf (later_at d patches at) mounts
-  pub text : new ≡ old ++ log_behind (at + 1) done d m (later_at d patches at) mounts
+  pub text : new ≡ old ++ log_behind form (at + 1) done d m (later_at d patches at) mounts

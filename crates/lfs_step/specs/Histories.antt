@@ -22,7 +22,7 @@ abbrev pub LeavesHistory : Step → Given → Outcome → Type 0
 LeavesHistory (Format count limits) g outcome = Leaves g outcome (fresh_history (image_of g.size outcome.image.items))
 LeavesHistory (Pack count limits rows) g outcome =
     (packed : List Packed) → AreRowsOf rows.now packed → Leaves g outcome (fresh_history (image_of g.size outcome.image.items))
-LeavesHistory (Ask query) g outcome = (old : History) → Denotes g.size g.image g.journal old → Leaves g outcome old
+LeavesHistory (Ask query form) g outcome = (old : History) → Denotes g.size g.image g.journal old → Leaves g outcome old
 LeavesHistory Forget g outcome = Leaves g outcome (fresh_history (image_of g.size g.image))
 LeavesHistory (Change steps) g outcome =
     (old : History) → Denotes g.size g.image g.journal old

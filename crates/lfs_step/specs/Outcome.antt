@@ -7,7 +7,7 @@ use Rattle.lfs_fs.specs.declared.limits.Limits.{Limits}
 use Rattle.lfs_command.specs.declared.refusal.Refusal.TheVariants.{Memory}
 use Rattle.lfs_command.specs.Command.{Asked}
 use Rattle.lfs_command.specs.Faults.{refusal_number}
-use Rattle.lfs_book.specs.Book.{book_of, journal_bytes}
+use Rattle.lfs_journal.specs.Book.{book_of, journal_bytes}
 use Rattle.lfs_edit.specs.Formatted.{IsFormatted}
 use Rattle.lfs_request.specs.declared.fault.Fault.{Fault}
 use Rattle.lfs_request.specs.declared.fault.Fault.TheVariants.{Image, Refused}
@@ -53,7 +53,7 @@ RefusesPacking size count limits rows _ = ⊥
 abbrev pub Refuses : Step → Given → ℕ → Fault → Type 0
 Refuses (Format count limits) g at fault = RefusesFormat g.size count fault
 Refuses (Pack count limits rows) g at fault = RefusesPacking g.size count limits rows.now fault
-Refuses (Ask query) g at fault = RefusesQuery query g.size g.image g.journal fault
+Refuses (Ask query form) g at fault = RefusesQuery query form g.size g.image g.journal fault
 Refuses Forget g at fault = RefusesForgetting g.size g.image fault
 Refuses (Change steps) g at fault = RefusesChange (map step_of steps.now) at g.size g.image g.journal fault
 Refuses (Tree changing keep) g at fault = RefusesTree changing keep at g.size g.image g.journal fault
@@ -70,7 +70,7 @@ AnswersDone (Format count limits) g outcome =
 AnswersDone (Pack count limits rows) g outcome =
     ((packed : List Packed) → AreRowsOf rows.now packed → IsPacked g.size count limits packed outcome.image.items)
     × (outcome.journal.items ≡ journal_bytes (book_of g.size count [] 0))
-AnswersDone (Ask query) g outcome = KeepsBoth g outcome
+AnswersDone (Ask query form) g outcome = KeepsBoth g outcome
 AnswersDone Forget g outcome = IsForgotten g.size g.image outcome
 AnswersDone (Change steps) g outcome = IsChanged (map step_of steps.now) (Denotes g.size g.image g.journal) outcome
 AnswersDone (Tree changing keep) g outcome =
@@ -84,5 +84,5 @@ Answers step g outcome =
 
 -- what goes out of a step's text; only what is asked has one
 abbrev pub SendsText : Step → Given → Option Fault → Option (List ℕ) → Option (List ℕ) → Type 0
-SendsText (Ask query) g fault old new = SendsAsked query (image_of g.size g.image) g.journal fault old new
+SendsText (Ask query form) g fault old new = SendsAsked query form (image_of g.size g.image) g.journal fault old new
 SendsText _ g fault old new = Keeps old new

@@ -6,32 +6,33 @@ use Rattle.lfs_fs.specs.Cause.{HasCause}
 use Rattle.lfs_fs.specs.Mounted.{MountedValue, IsMountOf}
 use Rattle.lfs_command.specs.declared.refusal.Refusal.{Refusal}
 use Rattle.lfs_command.specs.declared.refusal.Refusal.TheVariants.{Memory}
+use Rattle.lfs_json.specs.declared.form.Form.{Form}
 use Rattle.lfs_listing.specs.BlockMap.{block_map}
 use Rattle.lfs_listing.specs.BlockSums.{block_sums}
-use Rattle.lfs_listing.specs.Listing.{shown_byte}
 use Rattle.lfs_listing.specs.declared.unsent.Unsent.{Unsent}
 use Rattle.lfs_listing.specs.declared.unsent.Unsent.TheVariants as unsent
 use Rattle.lfs_request.specs.declared.fault.Fault.{Fault}
 use Rattle.lfs_request.specs.declared.fault.Fault.TheVariants.{Mount, Refused, CannotWrite}
 use Rattle.lfs_request.specs.Query.{Question}
 use Rattle.lfs_request.specs.declared.query.Query.TheVariants.{Check, Ls, Blocks, Cat}
-use Rattle.lfs_sink.specs.Send.{SendsBeginning}
+use Rattle.lfs_host.specs.Send.{SendsBeginning}
 use Rattle.lfs_step.specs.Contents.{IsContents, RefusesContents}
 use Rattle.lfs_step.specs.Listed.{IsListing, RefusesListing}
-use Rattle.lfs_step.specs.Summary.{summary}
+use Rattle.lfs_step.specs.Summary.{summary_text}
 
 -- which block holds what, or in place of that how many blocks each path takes
-abbrev pub blocks_text : Bool → MountedValue → List ℕ
-blocks_text true mounted = block_sums shown_byte mounted.outline mounted.rows
-blocks_text false mounted = block_map shown_byte mounted.outline mounted.rows
+abbrev pub blocks_text : Form → Bool → MountedValue → List ℕ
+blocks_text form true mounted = block_sums form mounted.outline mounted.rows
+blocks_text form false mounted = block_map form mounted.outline mounted.rows
 
--- the text that answers a query of an image alone, which mounts
-abbrev pub IsAnswer : Question → Disk → List ℕ → Type 0
-IsAnswer Check disk text = (mounted : MountedValue) × IsMountOf disk mounted × (text ≡ summary disk mounted)
-IsAnswer (Ls path) disk text = IsListing disk path.now text
-IsAnswer (Blocks sums) disk text = (mounted : MountedValue) × IsMountOf disk mounted × (text ≡ blocks_text sums mounted)
-IsAnswer (Cat path) disk text = IsContents disk path.now text
-IsAnswer _ disk text = ⊥
+-- the text that answers a query of an image alone, which mounts, in a form
+abbrev pub IsAnswer : Question → Form → Disk → List ℕ → Type 0
+IsAnswer Check form disk text = (mounted : MountedValue) × IsMountOf disk mounted × (text ≡ summary_text form disk mounted)
+IsAnswer (Ls path digests) form disk text = IsListing form digests disk path.now text
+IsAnswer (Blocks sums) form disk text =
+    (mounted : MountedValue) × IsMountOf disk mounted × (text ≡ blocks_text form sums mounted)
+IsAnswer (Cat path) form disk text = IsContents disk path.now text
+IsAnswer _ form disk text = ⊥
 
 -- an image mounts
 abbrev pub HasMount : Disk → Type 0
@@ -40,30 +41,31 @@ HasMount disk = (mounted : MountedValue) × IsMountOf disk mounted
 -- why there is none: want of memory, or that the image mounts and has nothing at the path, or no file to be read
 abbrev pub RefusesAnswer : Question → Disk → Refusal → Type 0
 RefusesAnswer query disk Memory = Unit {0}
-RefusesAnswer (Ls path) disk refusal = HasMount disk × RefusesListing disk path.now refusal
+RefusesAnswer (Ls path digests) disk refusal = HasMount disk × RefusesListing disk path.now refusal
 RefusesAnswer (Cat path) disk refusal = HasMount disk × RefusesContents disk path.now refusal
 RefusesAnswer _ disk refusal = ⊥
 
 -- why nothing, or not all, is said of an image: a cause that it has, no answer, or standard output
-abbrev pub RefusesReport : Question → Disk → Fault → Type 0
-RefusesReport query disk (Mount fault) = HasCause disk fault
-RefusesReport query disk (Refused refusal) = RefusesAnswer query disk refusal
-RefusesReport query disk CannotWrite = (text : List ℕ) × IsAnswer query disk text
-RefusesReport query disk _ = ⊥
+abbrev pub RefusesReport : Question → Form → Disk → Fault → Type 0
+RefusesReport query form disk (Mount fault) = HasCause disk fault
+RefusesReport query form disk (Refused refusal) = RefusesAnswer query disk refusal
+RefusesReport query form disk CannotWrite = (text : List ℕ) × IsAnswer query form disk text
+RefusesReport query form disk _ = ⊥
 
 -- nothing has gone out of the text that answers a query, or some of it
-abbrev pub SendsSome : Question → Disk → Option (List ℕ) → Option (List ℕ) → Type 0
-SendsSome query disk old new =
-    Keeps old new ⊎ ((text : List ℕ) × IsAnswer query disk text × (n : ℕ) × (n ≤ length text) × Appends old new (take n text))
+abbrev pub SendsSome : Question → Form → Disk → Option (List ℕ) → Option (List ℕ) → Type 0
+SendsSome query form disk old new =
+    Keeps old new ⊎ ((text : List ℕ) × IsAnswer query form disk text × (n : ℕ) × (n ≤ length text) × Appends old new (take n text))
 
 -- what goes out on an image: the whole text, a beginning of it where standard output failed, else nothing; of a listing, and of what is
 -- said of blocks, which are written line by line, some where memory was refused
-abbrev pub SendsReport : Question → Disk → Option Fault → Option (List ℕ) → Option (List ℕ) → Type 0
-SendsReport query disk None old new = (text : List ℕ) × IsAnswer query disk text × Appends old new text
-SendsReport query disk (Some CannotWrite) old new = (text : List ℕ) × IsAnswer query disk text × SendsBeginning old new text
-SendsReport (Ls path) disk (Some (Refused refusal)) old new = SendsSome (Ls path) disk old new
-SendsReport (Blocks sums) disk (Some (Refused refusal)) old new = SendsSome (Blocks sums) disk old new
-SendsReport query disk (Some fault) old new = Keeps old new
+abbrev pub SendsReport : Question → Form → Disk → Option Fault → Option (List ℕ) → Option (List ℕ) → Type 0
+SendsReport query form disk None old new = (text : List ℕ) × IsAnswer query form disk text × Appends old new text
+SendsReport query form disk (Some CannotWrite) old new =
+    (text : List ℕ) × IsAnswer query form disk text × SendsBeginning old new text
+SendsReport (Ls path digests) form disk (Some (Refused refusal)) old new = SendsSome (Ls path digests) form disk old new
+SendsReport (Blocks sums) form disk (Some (Refused refusal)) old new = SendsSome (Blocks sums) form disk old new
+SendsReport query form disk (Some fault) old new = Keeps old new
 
 -- a listing that didn't go out as a whole is told as want of memory, or as standard output that failed
 abbrev pub fault_of_unsent : Unsent → Fault

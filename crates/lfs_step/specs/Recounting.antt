@@ -9,28 +9,29 @@ use Rattle.lfs_history.specs.declared.open_fault.OpenFault.TheVariants as openin
 use Rattle.lfs_request.specs.declared.fault.Fault.{Fault}
 use Rattle.lfs_request.specs.declared.fault.Fault.TheVariants.{Mount, Refused, JournalFormat, JournalMismatch, JournalImage, CannotWrite}
 use Rattle.lfs_change.specs.Change.{DenotesOn, RefusesJournal}
-use Rattle.lfs_sink.specs.Send.{SendsBeginning}
+use Rattle.lfs_host.specs.Send.{SendsBeginning}
+use Rattle.lfs_json.specs.declared.form.Form.{Form}
 use Rattle.lfs_step.specs.Log.{IsLog}
 
--- the text is that of the history which an image and the bytes of a journal denote
-pub record IsRecount (d : Disk) (journal text : List ℕ) : Type 0 where
+-- the text is that of the history which an image and the bytes of a journal denote, in a form
+pub record IsRecount (form : Form) (d : Disk) (journal text : List ℕ) : Type 0 where
   pub history : History
   pub denotes : DenotesOn d journal history
-  pub log : IsLog history text
+  pub log : IsLog form history text
 
 -- Why nothing, or not all, is told of an image's changes: a cause that it has, then what its journal is refused for, as where a change is
 -- taken back; want of memory, or standard output.
-abbrev pub RefusesRecount : Disk → List ℕ → Fault → Type 0
-RefusesRecount d journal (Mount fault) = HasCause d fault
-RefusesRecount d journal (Refused refusal) = refusal ≡ Memory
-RefusesRecount d journal JournalFormat = RefusesJournal opening.JournalFormat d journal
-RefusesRecount d journal JournalMismatch = RefusesJournal opening.JournalMismatch d journal
-RefusesRecount d journal JournalImage = RefusesJournal opening.JournalImage d journal
-RefusesRecount d journal CannotWrite = (text : List ℕ) × IsRecount d journal text
-RefusesRecount d journal _ = ⊥
+abbrev pub RefusesRecount : Form → Disk → List ℕ → Fault → Type 0
+RefusesRecount form d journal (Mount fault) = HasCause d fault
+RefusesRecount form d journal (Refused refusal) = refusal ≡ Memory
+RefusesRecount form d journal JournalFormat = RefusesJournal opening.JournalFormat d journal
+RefusesRecount form d journal JournalMismatch = RefusesJournal opening.JournalMismatch d journal
+RefusesRecount form d journal JournalImage = RefusesJournal opening.JournalImage d journal
+RefusesRecount form d journal CannotWrite = (text : List ℕ) × IsRecount form d journal text
+RefusesRecount form d journal _ = ⊥
 
 -- what goes out on an image: the whole text, a beginning of it where standard output failed, else nothing
-abbrev pub SendsRecount : Disk → List ℕ → Option Fault → Option (List ℕ) → Option (List ℕ) → Type 0
-SendsRecount d journal None old new = (text : List ℕ) × IsRecount d journal text × Appends old new text
-SendsRecount d journal (Some CannotWrite) old new = (text : List ℕ) × IsRecount d journal text × SendsBeginning old new text
-SendsRecount d journal (Some fault) old new = Keeps old new
+abbrev pub SendsRecount : Form → Disk → List ℕ → Option Fault → Option (List ℕ) → Option (List ℕ) → Type 0
+SendsRecount form d journal None old new = (text : List ℕ) × IsRecount form d journal text × Appends old new text
+SendsRecount form d journal (Some CannotWrite) old new = (text : List ℕ) × IsRecount form d journal text × SendsBeginning old new text
+SendsRecount form d journal (Some fault) old new = Keeps old new

@@ -48,7 +48,7 @@ GoesOn size (Format count limits) old new = (new ≡ fresh_history new.present) 
 GoesOn size (Pack count limits rows) old new =
     (new ≡ fresh_history new.present)
     × ((packed : List Packed) → AreRowsOf rows.now packed → IsPacked size count limits packed new.present.bytes)
-GoesOn size (Ask query) old new = new ≡ old
+GoesOn size (Ask query form) old new = new ≡ old
 GoesOn size Forget old new = Forgets old new
 GoesOn size (Change steps) old new = TakesAll (map step_of steps.now) old new
 GoesOn size (Tree changing keep) old new = ChangesTree changing keep old new

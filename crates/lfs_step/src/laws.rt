@@ -10,11 +10,9 @@ use lfs_fs::{images_mount_to_one_tree, paths_are_ordered, rows_are_unique, texts
 use lfs_history::saved_histories_open;
 use lfs_sync::{mounted_rows_are_held, texts_spell_their_commands};
 
-/// A law: the image and the journal that a step leaves denote the history to which it leads from the one that they denoted
-/// before. A new image begins one, empty or of rows, and so does one of which all else is forgotten; a question leaves the one that was
-/// there; and a change is steps of it. Takes no memory.
-///
-/// Source: own.
+/// A law: the image and the journal that a step leaves denote the history to which it leads from the one that they denoted before. A
+/// new image begins one, empty or of rows, and so does one of which all else is forgotten; a question leaves the one that was there;
+/// and a change is steps of it.
 pub fn steps_leave_histories()
     ensures { StepsLeaveHistories }
 {
@@ -24,9 +22,7 @@ pub fn steps_leave_histories()
 
 /// A law: a list of runs of any steps, with blocks of one size, each handed the image and the journal that the one before left,
 /// leads from the history that the first image and journal denote to the one that the last denote. A run that is refused leaves
-/// the history. Takes no memory.
-///
-/// Source: own.
+/// the history.
 pub fn runs_go_on()
     ensures { RunsGoOn }
 {
@@ -34,9 +30,7 @@ pub fn runs_go_on()
 }
 
 /// A law: an image that was packed is listed as the rows that it was packed of: each path with its kind, its size and its attributes,
-/// in their order. Takes no memory.
-///
-/// Source: own.
+/// in their order.
 pub fn packed_images_list_their_rows()
     ensures { PackedImagesListTheirRows }
 {
@@ -48,9 +42,7 @@ pub fn packed_images_list_their_rows()
 /// A law: on an image that mounts to a tree, an accepted change of a whole tree leaves an image that mounts to the tree that the change
 /// says (`said`). This is the tree without what was at the path, with a directory and its parents there, with a file and its parents, or
 /// with what a folder has. Where that is the tree which was there, the image stays byte for byte; but a file is put all the same
-/// (`equal`). Takes no memory.
-///
-/// Source: own.
+/// (`equal`).
 pub fn trees_are_changed_as_said()
     ensures said { TreesAreChanged }
     ensures equal { EqualTreesStay }

@@ -11,19 +11,23 @@ use crate::telling::tell_all;
 use lfs_block::{Blocks, Image};
 use lfs_fs::mounted_images_have_no_cause;
 use lfs_history::OpenFault;
-use lfs_journal::{Changes, read_changes};
-use lfs_sink::MemorySink;
+use lfs_host::MemorySink;
+use lfs_json::Form;
+use lfs_session::{Changes, read_changes};
 use std::alloc::Global;
 
 /// The text of the history that the bytes of a journal denote on an image: for each change, from the oldest on, a line with its
 /// number and `done` or `undone`, and then what differs between the tree of the image before it and that of the image after it,
-/// as `send_difference` sends it. It is refused as `Session::open` refuses the journal: by the image's own cause, then
+/// as `send_difference` sends it; in JSON the line is an object with `number` and `state`. It is refused as `Session::open` refuses the journal: by the image's own cause, then
 /// `JournalFormat`, `JournalMismatch` and `JournalImage`; want of memory is told as the mount's. One image is held and moved
 /// along, each other one is mounted once, and the image stands again as it was.
-///
-/// Source: own.
-pub fn log_of(alloc: Global, image: &mut Image, journal: &[u8]) -> Result<Vec<u8>, OpenFault>
-    ensures text { IfOk result (λ text. (h : History) × Opens image.old.disk journal.now h × IsLog h text.items) }
+pub fn log_of(
+    alloc: Global,
+    form: Form,
+    image: &mut Image,
+    journal: &[u8],
+) -> Result<Vec<u8>, OpenFault>
+    ensures text { IfOk result (λ text. (h : History) × Opens image.old.disk journal.now h × IsLog form h text.items) }
     ensures refused { IfErr result (λ fault. RefusesOpening fault image.old.disk journal.now) }
     ensures disk { image.new.disk ≡ image.old.disk }
 {
@@ -38,6 +42,7 @@ pub fn log_of(alloc: Global, image: &mut Image, journal: &[u8]) -> Result<Vec<u8
         patches: &patches,
         done,
         erased: &erased,
+        form,
     };
     let mut text = MemorySink::new(alloc);
     tell_all(alloc, image, &course, done, &mut text)?;

@@ -5,7 +5,7 @@ ghost use Rattle.lfs_block.specs.Disk.{erased_block};
 ghost use Rattle.lfs_block.specs.declared.mount_fault.MountFault.TheVariants.{Memory};
 ghost use Rattle.lfs_fs.specs.Mounted.{IsMountOf};
 ghost use Rattle.lfs_history.specs.declared.open_fault.OpenFault.TheVariants.{Mount};
-ghost use Rattle.lfs_journal.specs.Opened.{RefusesMount};
+ghost use Rattle.lfs_session.specs.Opened.{RefusesMount};
 
 use lfs_block::{Blocks, MountFault};
 use lfs_fs::{Mounted, mount};

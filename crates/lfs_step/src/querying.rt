@@ -6,7 +6,10 @@ ghost use Rattle.lfs_block.specs.Disk.{Disk};
 ghost use Rattle.lfs_fs.specs.Mounted.{IsMountOf};
 ghost use Rattle.lfs_listing.specs.Unsent.{SendsListing, blames_sink};
 ghost use Rattle.lfs_request.specs.Fault.{blames_output, status_of};
+ghost use Rattle.lfs_listing.specs.Below.{names};
 ghost use Rattle.lfs_step.specs.Asking.{RefusesAsked, SendsAsked};
+ghost use Rattle.lfs_step.specs.Listed.{listing_text};
+ghost use Rattle.lfs_step.specs.Comparing.{said_form};
 ghost use Rattle.lfs_step.specs.Outcome.{Answers, SendsText, given};
 ghost use Rattle.lfs_step.specs.Query.{RefusesReport, SendsReport, blocks_text};
 ghost use Rattle.lfs_request.specs.declared.query.Query.TheVariants.{Blocks, Cat, Check, Ls};
@@ -15,32 +18,34 @@ ghost use Rattle.lfs_step.specs.declared.step.Step.TheVariants.{Ask};
 use crate::comparing::compare_bytes;
 use crate::contents::send_file;
 use crate::recounting::recount;
-use crate::sending::{fault_of_listing, sent_whole};
+use crate::sending::{fault_of_listing, sent_complete};
 use crate::standing::names_there;
-use crate::summary::summary;
+use crate::summary::summary_text;
 use lfs_block::Image;
 use lfs_fs::{Mounted, mount};
-use lfs_listing::{Unsent, send_block_map, send_block_sums, send_listing};
+use lfs_host::{Sink, send};
+use lfs_json::Form;
+use lfs_listing::{
+    MountedImage, Unsent, send_block_map, send_block_sums, send_digests, send_listing,
+};
 use lfs_request::{Fault, Outcome, Place, Query};
-use lfs_sink::{Sink, send};
 use std::alloc::Global;
 use std::mem::forget;
 
-/// Answers a query of bytes that are an image, with blocks of `size` bytes, and of its journal; both are answered as they were handed in.
-/// The caller owes that `out` has not failed. Takes memory.
-///
-/// Source: own.
+/// Answers a query of bytes that are an image, with blocks of `size` bytes, and of its journal, in a form; both are answered as they were handed in.
+/// Takes memory.
 pub fn queried<S: Sink>(
     alloc: Global,
     query: Query<'_, Vec<u8>>,
+    form: Form,
     size: u32,
     image: Vec<u8>,
     journal: Vec<u8>,
     out: &mut S,
 ) -> Outcome
     requires { S.failed out.old ≡ false }
-    ensures answers { Answers (Ask query.entry) (given size image.items journal.items) result }
-    ensures sent { SendsText (Ask query.entry) (given size image.items journal.items) result.fault (S.sent out.old) (S.sent out.new) }
+    ensures answers { Answers (Ask query.entry form) (given size image.items journal.items) result }
+    ensures sent { SendsText (Ask query.entry form) (given size image.items journal.items) result.fault (S.sent out.old) (S.sent out.new) }
     ensures failed { S.failed out.new ≡ blames_output result.fault }
     ensures kept { S.kept out.new ≡ S.kept out.old }
     ensures status { result.status ≡ status_of result.fault }
@@ -48,7 +53,7 @@ pub fn queried<S: Sink>(
     match Image::new(image, size) {
         Ok(mut image) => {
             let mut place = None;
-            let fault = report(alloc, query, &mut image, &journal, &mut place, out).err();
+            let fault = report(alloc, query, form, &mut image, &journal, &mut place, out).err();
             Outcome::placed(image.into_bytes(), journal, fault, 0, place)
         }
         Err((fault, image)) => Outcome::new(image, journal, Some(Fault::Image(fault))),
@@ -60,59 +65,73 @@ pub fn queried<S: Sink>(
 fn report<S: Sink>(
     alloc: Global,
     query: Query<'_, Vec<u8>>,
+    form: Form,
     image: &mut Image,
     journal: &[u8],
     place: &mut Option<Place>,
     out: &mut S,
 ) -> Result<(), Fault>
     requires { S.failed out.old ≡ false }
-    ensures refused { IfErr result (λ fault. RefusesAsked query.entry image.old.disk journal.now fault) }
-    ensures sent { SendsAsked query.entry image.old.disk journal.now (result_err result) (S.sent out.old) (S.sent out.new) }
+    ensures refused { IfErr result (λ fault. RefusesAsked query.entry form image.old.disk journal.now fault) }
+    ensures sent { SendsAsked query.entry form image.old.disk journal.now (result_err result) (S.sent out.old) (S.sent out.new) }
     ensures failed { S.failed out.new ≡ blames_output (result_err result) }
     ensures kept { S.kept out.new ≡ S.kept out.old }
     ensures disk { image.new.disk ≡ image.old.disk }
 {
     match query {
-        Query::Check => say_summary(alloc, image, out),
-        Query::Ls { path } => say_listing(alloc, image, path, place, out),
-        Query::Blocks { sums } => say_blocks(alloc, image, sums, out),
-        Query::Cat { path } => say_contents(alloc, image, path, place, out),
-        Query::Diff { other, size, quiet } => compare_bytes(alloc, image, size, other, quiet, out),
-        Query::Log => recount(alloc, image, journal, out),
+        Query::Check => say_summary(alloc, form, image, out),
+        Query::Ls { path, digests } => {
+            say_listing(alloc, form, digests, image, path, place, out)
+        }
+        Query::Blocks { sums } => say_blocks(alloc, form, image, sums, out),
+        Query::Cat { path } => say_contents(alloc, form, image, path, place, out),
+        Query::Diff { other, size, quiet } => {
+            compare_bytes(alloc, image, size, other, said_form(quiet, form), out)
+        }
+        Query::Log => recount(alloc, form, image, journal, out),
     }
+}
+
+/// How what differs is said: in a form, or for `None` not at all.
+fn said_form(quiet: bool, form: Form) -> Option<Form>
+    ensures { result ≡ said_form quiet form }
+{
+    if quiet { None } else { Some(form) }
 }
 
 /// Says what an image holds, in one line. What was mounted isn't given back to the allocator, since the program ends behind its answer:
 /// to give names back one by one takes a tenth of the time of a check.
-fn say_summary<S: Sink>(alloc: Global, image: &Image, out: &mut S) -> Result<(), Fault>
+fn say_summary<S: Sink>(alloc: Global, form: Form, image: &Image, out: &mut S) -> Result<(), Fault>
     requires { S.failed out.old ≡ false }
-    ensures refused { IfErr result (λ fault. RefusesReport Check image.now.disk fault) }
-    ensures sent { SendsReport Check image.now.disk (result_err result) (S.sent out.old) (S.sent out.new) }
+    ensures refused { IfErr result (λ fault. RefusesReport Check form image.now.disk fault) }
+    ensures sent { SendsReport Check form image.now.disk (result_err result) (S.sent out.old) (S.sent out.new) }
     ensures failed { S.failed out.new ≡ blames_output (result_err result) }
     ensures kept { S.kept out.new ≡ S.kept out.old }
 {
     let mounted = mount(alloc, image)?;
-    let line = summary(alloc, image, &mounted)?;
+    let line = summary_text(alloc, form, image, &mounted)?;
     forget(mounted);
-    sent_whole(send(out, line.as_bytes()))
+    sent_complete(send(out, &line))
 }
 
 /// Says what stands at a path of an image and below, row by row. Where the path is refused the place is left.
 fn say_listing<S: Sink>(
     alloc: Global,
+    form: Form,
+    digests: bool,
     image: &Image,
     path: &[u8],
     place: &mut Option<Place>,
     out: &mut S,
 ) -> Result<(), Fault>
     requires { S.failed out.old ≡ false }
-    ensures refused { IfErr result (λ fault. RefusesReport (Ls path.entry) image.now.disk fault) }
-    ensures sent { SendsReport (Ls path.entry) image.now.disk (result_err result) (S.sent out.old) (S.sent out.new) }
+    ensures refused { IfErr result (λ fault. RefusesReport (Ls path.entry digests) form image.now.disk fault) }
+    ensures sent { SendsReport (Ls path.entry digests) form image.now.disk (result_err result) (S.sent out.old) (S.sent out.new) }
     ensures failed { S.failed out.new ≡ blames_output (result_err result) }
     ensures kept { S.kept out.new ≡ S.kept out.old }
 {
     let mounted = mount(alloc, image)?;
-    let said = say_rows(alloc, image, &mounted, path, place, out);
+    let said = say_rows(alloc, form, digests, image, &mounted, path, place, out);
     forget(mounted);
     said
 }
@@ -120,6 +139,8 @@ fn say_listing<S: Sink>(
 /// Says what stands at a path of an image that is mounted, and below.
 fn say_rows<S: Sink>(
     alloc: Global,
+    form: Form,
+    digests: bool,
     image: &Image,
     mounted: &Mounted,
     path: &[u8],
@@ -128,13 +149,13 @@ fn say_rows<S: Sink>(
 ) -> Result<(), Fault>
     requires mounted { IsMountOf image.now.disk mounted.now }
     requires works { S.failed out.old ≡ false }
-    ensures refused { IfErr result (λ fault. RefusesReport (Ls path.entry) image.now.disk fault) }
-    ensures sent { SendsReport (Ls path.entry) image.now.disk (result_err result) (S.sent out.old) (S.sent out.new) }
+    ensures refused { IfErr result (λ fault. RefusesReport (Ls path.entry digests) form image.now.disk fault) }
+    ensures sent { SendsReport (Ls path.entry digests) form image.now.disk (result_err result) (S.sent out.old) (S.sent out.new) }
     ensures failed { S.failed out.new ≡ blames_output (result_err result) }
     ensures kept { S.kept out.new ≡ S.kept out.old }
 {
     match names_there(alloc, image, mounted, path) {
-        Ok(names) => match send_listing(alloc, mounted.rows(), &names, out) {
+        Ok(names) => match send_rows(alloc, form, digests, image, mounted, &names, out) {
             Ok(()) => Ok(()),
             Err(unsent) => Err(fault_of_listing(unsent)),
         },
@@ -145,36 +166,70 @@ fn say_rows<S: Sink>(
     }
 }
 
+/// Sends the listing of what stands at a path of a mounted image and below, with the digests of files' contents or without.
+fn send_rows<S: Sink>(
+    alloc: Global,
+    form: Form,
+    digests: bool,
+    image: &Image,
+    mounted: &Mounted,
+    at: &[&[u8]],
+    out: &mut S,
+) -> Result<(), Unsent>
+    requires mounted { IsMountOf image.now.disk mounted.now }
+    requires works { S.failed out.old ≡ false }
+    ensures sent { SendsListing (result_err result) (S.sent out.old) (S.sent out.new)
+        (listing_text form digests image.now.disk (names at.now) mounted.now.rows) }
+    ensures failed { S.failed out.new ≡ blames_sink (result_err result) }
+    ensures kept { S.kept out.new ≡ S.kept out.old }
+{
+    if digests {
+        let image = MountedImage {
+            disk: image,
+            mounted,
+        };
+        return send_digests(alloc, form, &image, at, out);
+    }
+    send_listing(alloc, form, mounted.rows(), at, out)
+}
+
 /// Sends which block of a mounted image holds what, or in place of that how many blocks each path takes.
 fn send_blocks<S: Sink>(
     alloc: Global,
+    form: Form,
     mounted: &Mounted,
     sums: bool,
     out: &mut S,
 ) -> Result<(), Unsent>
     requires mounted { (disk : Disk) × IsMountOf disk mounted.now }
     requires works { S.failed out.old ≡ false }
-    ensures sent { SendsListing (result_err result) (S.sent out.old) (S.sent out.new) (blocks_text sums mounted.now) }
+    ensures sent { SendsListing (result_err result) (S.sent out.old) (S.sent out.new) (blocks_text form sums mounted.now) }
     ensures failed { S.failed out.new ≡ blames_sink (result_err result) }
     ensures kept { S.kept out.new ≡ S.kept out.old }
 {
     if sums {
-        send_block_sums(alloc, mounted, out)
+        send_block_sums(alloc, form, mounted, out)
     } else {
-        send_block_map(alloc, mounted, out)
+        send_block_map(alloc, form, mounted, out)
     }
 }
 
 /// Says which block of an image holds what, or how many blocks each path takes, line by line.
-fn say_blocks<S: Sink>(alloc: Global, image: &Image, sums: bool, out: &mut S) -> Result<(), Fault>
+fn say_blocks<S: Sink>(
+    alloc: Global,
+    form: Form,
+    image: &Image,
+    sums: bool,
+    out: &mut S,
+) -> Result<(), Fault>
     requires { S.failed out.old ≡ false }
-    ensures refused { IfErr result (λ fault. RefusesReport (Blocks sums) image.now.disk fault) }
-    ensures sent { SendsReport (Blocks sums) image.now.disk (result_err result) (S.sent out.old) (S.sent out.new) }
+    ensures refused { IfErr result (λ fault. RefusesReport (Blocks sums) form image.now.disk fault) }
+    ensures sent { SendsReport (Blocks sums) form image.now.disk (result_err result) (S.sent out.old) (S.sent out.new) }
     ensures failed { S.failed out.new ≡ blames_output (result_err result) }
     ensures kept { S.kept out.new ≡ S.kept out.old }
 {
     let mounted = mount(alloc, image)?;
-    let sent = send_blocks(alloc, &mounted, sums, out);
+    let sent = send_blocks(alloc, form, &mounted, sums, out);
     forget(mounted);
     match sent {
         Ok(()) => Ok(()),
@@ -185,19 +240,20 @@ fn say_blocks<S: Sink>(alloc: Global, image: &Image, sums: bool, out: &mut S) ->
 /// Says the contents of a file, which go out slice by slice. Where its path is refused the place is left.
 fn say_contents<S: Sink>(
     alloc: Global,
+    form: Form,
     image: &Image,
     path: &[u8],
     place: &mut Option<Place>,
     out: &mut S,
 ) -> Result<(), Fault>
     requires { S.failed out.old ≡ false }
-    ensures refused { IfErr result (λ fault. RefusesReport (Cat path.entry) image.now.disk fault) }
-    ensures sent { SendsReport (Cat path.entry) image.now.disk (result_err result) (S.sent out.old) (S.sent out.new) }
+    ensures refused { IfErr result (λ fault. RefusesReport (Cat path.entry) form image.now.disk fault) }
+    ensures sent { SendsReport (Cat path.entry) form image.now.disk (result_err result) (S.sent out.old) (S.sent out.new) }
     ensures failed { S.failed out.new ≡ blames_output (result_err result) }
     ensures kept { S.kept out.new ≡ S.kept out.old }
 {
     let mounted = mount(alloc, image)?;
-    let said = say_file(alloc, image, &mounted, path, place, out);
+    let said = say_file(alloc, form, image, &mounted, path, place, out);
     forget(mounted);
     said
 }
@@ -205,6 +261,7 @@ fn say_contents<S: Sink>(
 /// Says the contents of a file of an image that is mounted.
 fn say_file<S: Sink>(
     alloc: Global,
+    form: Form,
     image: &Image,
     mounted: &Mounted,
     path: &[u8],
@@ -213,13 +270,13 @@ fn say_file<S: Sink>(
 ) -> Result<(), Fault>
     requires mounted { IsMountOf image.now.disk mounted.now }
     requires works { S.failed out.old ≡ false }
-    ensures refused { IfErr result (λ fault. RefusesReport (Cat path.entry) image.now.disk fault) }
-    ensures sent { SendsReport (Cat path.entry) image.now.disk (result_err result) (S.sent out.old) (S.sent out.new) }
+    ensures refused { IfErr result (λ fault. RefusesReport (Cat path.entry) form image.now.disk fault) }
+    ensures sent { SendsReport (Cat path.entry) form image.now.disk (result_err result) (S.sent out.old) (S.sent out.new) }
     ensures failed { S.failed out.new ≡ blames_output (result_err result) }
     ensures kept { S.kept out.new ≡ S.kept out.old }
 {
     match send_file(alloc, image, mounted, path, out) {
-        Ok(whole) => sent_whole(whole),
+        Ok(complete) => sent_complete(complete),
         Err(refusal) => {
             *place = Place::of(alloc, mounted.outline(), path, None);
             Err(Fault::Refused(refusal))

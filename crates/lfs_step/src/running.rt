@@ -2,7 +2,7 @@
 
 ghost use Rattle.std.specs.Prelude.{◌≡◌, List, [], false, IfOk, IfErr};
 ghost use Rattle.lfs_block.specs.Geometry.{IsGeometry};
-ghost use Rattle.lfs_book.specs.Book.{book_of, journal_bytes};
+ghost use Rattle.lfs_journal.specs.Book.{book_of, journal_bytes};
 ghost use Rattle.lfs_command.specs.declared.refusal.Refusal.TheVariants.{Memory};
 ghost use Rattle.lfs_fs.specs.Superblock.{IsLimits};
 ghost use Rattle.lfs_edit.specs.Formatted.{IsFormatted};
@@ -21,7 +21,6 @@ use crate::querying::queried;
 use crate::step::Step;
 use crate::tree_changing::tree_changed;
 use lfs_block::{ImageFault, geometry_ok};
-use lfs_book::write_journal;
 use lfs_change::{
     bytes_are_changed_together, changed, changed_bytes_are_equations, forgotten,
     journals_of_bytes_grow_by_the_need,
@@ -29,9 +28,10 @@ use lfs_change::{
 use lfs_command::Refusal;
 use lfs_edit::format_within;
 use lfs_fs::Limits;
+use lfs_host::Sink;
+use lfs_journal::write_journal;
 use lfs_pack::{PackRow, pack_within};
 use lfs_request::{Fault, Outcome};
-use lfs_sink::Sink;
 use std::alloc::Global;
 
 /// Takes one step on an image and its journal, with blocks of `size` bytes. What it says goes to `out`, and the caller owes that this has
@@ -49,8 +49,6 @@ use std::alloc::Global;
 /// A step that is done leaves an image and a journal that denote the history to which it leads; a command, an image that mounts to the
 /// command's equation, and a journal that has grown by no more than the command's need; so do commands that are one change, with their
 /// equations one after another, and their needs together. Takes memory.
-///
-/// Source: own.
 pub fn run<S: Sink>(
     alloc: Global,
     step: Step<'_>,
@@ -101,7 +99,7 @@ fn taken<S: Sink>(
             limits,
             rows,
         } => packed(alloc, size, count, limits, rows, image, journal),
-        Step::Ask(query) => queried(alloc, query, size, image, journal, out),
+        Step::Ask { query, form } => queried(alloc, query, form, size, image, journal, out),
         Step::Forget => forgotten(alloc, size, image, journal),
         Step::Change(steps) => changed(alloc, steps, size, image, journal),
         Step::Tree { change, keep } => tree_changed(alloc, &change, keep, size, image, journal),

@@ -10,10 +10,10 @@ use lfs_listing::Unsent;
 use lfs_request::Fault;
 
 /// What a text that did not go out as a whole is told as.
-pub(crate) fn sent_whole(whole: bool) -> Result<(), Fault>
-    ensures { result_err result ≡ (if whole then None else Some CannotWrite) }
+pub(crate) fn sent_complete(complete: bool) -> Result<(), Fault>
+    ensures { result_err result ≡ (if complete then None else Some CannotWrite) }
 {
-    if whole {
+    if complete {
         Ok(())
     } else {
         Err(Fault::CannotWrite)

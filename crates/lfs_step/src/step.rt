@@ -2,13 +2,12 @@
 
 use lfs_fs::Limits;
 use lfs_history::Move;
+use lfs_json::Form;
 use lfs_pack::PackRow;
 use lfs_request::{Query, TreeChange};
 use lfs_sync::SyncRow;
 
 /// What is done with an image and its journal, with all bytes in hand that it takes.
-///
-/// Source: own.
 #[derive(Drop)]
 pub enum Step<'a> {
     /// Makes a new image of this many blocks with these limits.
@@ -28,7 +27,12 @@ pub enum Step<'a> {
         rows: &'a [PackRow<'a>],
     },
     /// Asks something of them.
-    Ask(Query<'a, Vec<u8>>),
+    Ask {
+        /// The question.
+        query: Query<'a, Vec<u8>>,
+        /// The form of what is answered, but for the contents of a file.
+        form: Form,
+    },
     /// Keeps the image, and no change that led to it or was taken back.
     Forget,
     /// Changes the image, or what is kept of its changes: steps on its history, one after another, all of them or none.

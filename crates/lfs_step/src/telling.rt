@@ -5,8 +5,8 @@ ghost use Rattle.lfs_block.specs.Disk.{erased_block};
 ghost use Rattle.lfs_block.specs.declared.mount_fault.MountFault.TheVariants.{Memory};
 ghost use Rattle.lfs_fs.specs.Mounted.{IsMountOf};
 ghost use Rattle.lfs_history.specs.declared.open_fault.OpenFault.TheVariants.{Mount};
-ghost use Rattle.lfs_journal.specs.Known.{HasRoom};
-ghost use Rattle.lfs_journal.specs.Opened.{RefusesMounts};
+ghost use Rattle.lfs_session.specs.Known.{HasRoom};
+ghost use Rattle.lfs_session.specs.Opened.{RefusesMounts};
 ghost use Rattle.lfs_listing.specs.Comparing.{Leads};
 ghost use Rattle.lfs_listing.specs.Difference.{difference};
 ghost use Rattle.lfs_step.specs.Between.{IsBetween, TellsAll, TellsOn, images_at, later_at};
@@ -21,14 +21,15 @@ use lfs_block::{
 };
 use lfs_fs::Mounted;
 use lfs_history::OpenFault;
+use lfs_host::MemorySink;
+use lfs_json::Form;
 use lfs_listing::{MountedImage, send_difference};
-use lfs_sink::MemorySink;
 use std::alloc::Global;
 
-/// Adds the line of a change, and what differs between the image before it and the one after it. The caller owes that the
-/// text has not failed before.
+/// Adds the line of a change, and what differs between the image before it and the one after it.
 fn tell_change(
     alloc: Global,
+    form: Form,
     number: usize,
     done: usize,
     first: &MountedImage<'_, Image>,
@@ -40,22 +41,30 @@ fn tell_change(
     requires first { IsMountOf first.now.disk.now.disk first.now.mounted.now }
     requires second { IsMountOf second.now.disk.now second.now.mounted.now }
     requires between { Leads patch.now first.now.disk.now.disk second.now.disk.now }
-    ensures told { OnOk result (text.new.bytes.items ≡ text.old.bytes.items ++ change_line number done
-        ++ difference first.now.disk.now.disk first.now.mounted.now.rows second.now.disk.now second.now.mounted.now.rows) }
+    ensures told { OnOk result (text.new.bytes.items ≡ text.old.bytes.items ++ change_line form number done
+        ++ difference form first.now.disk.now.disk first.now.mounted.now.rows second.now.disk.now second.now.mounted.now.rows) }
     ensures works { OnOk result (text.new.has_failed ≡ false) }
     ensures memory { IfErr result (λ fault. fault ≡ Mount Memory) }
 {
-    if !tell_line(text, number, done) {
+    if !tell_line(alloc, form, text, number, done) {
         return Err(OpenFault::Mount(MountFault::Memory));
     }
-    match send_difference(alloc, first, second, Some(patch), Vec::new(alloc), text) {
+    match send_difference(
+        alloc,
+        form,
+        first,
+        second,
+        Some(patch),
+        Vec::new(alloc),
+        text,
+    ) {
         Ok(_) => Ok(()),
         Err(_) => Err(OpenFault::Mount(MountFault::Memory)),
     }
 }
 
 /// Tells the changes behind an image, the nearest first: the image stands behind so many of all, and is mounted. It goes on with
-/// them, and stands again as it was. The caller owes the room for the changes.
+/// them, and stands again as it was.
 fn tell_on(
     alloc: Global,
     image: &mut Image,
@@ -69,7 +78,7 @@ fn tell_on(
     requires room { HasRoom image.old.room course.now.patches.now }
     requires erased { course.now.erased.now ≡ erased_block image.old.disk.size }
     requires works { text.old.has_failed ≡ false }
-    ensures told { OnOk result (TellsOn image.old.disk mounted.old course.now.patches.now at course.now.done
+    ensures told { OnOk result (TellsOn course.now.form image.old.disk mounted.old course.now.patches.now at course.now.done
         text.old.bytes.items text.new.bytes.items) }
     ensures refused { IfErr result (λ fault. RefusesMounts fault (later_at image.old.disk course.now.patches.now at)) }
     ensures disk { image.new.disk ≡ image.old.disk }
@@ -91,7 +100,16 @@ fn tell_on(
         disk: &after,
         mounted: &next,
     };
-    tell_change(alloc, at + 1, course.done, &first, &second, patch, text)?;
+    tell_change(
+        alloc,
+        course.form,
+        at + 1,
+        course.done,
+        &first,
+        &second,
+        patch,
+        text,
+    )?;
     *mounted = next;
     patch.apply(image);
     let told = tell_on(alloc, image, mounted, course, at + 1, text);
@@ -100,7 +118,7 @@ fn tell_on(
 }
 
 /// Tells all changes, the oldest first: the image stands behind so many of them. It goes back to the oldest, and stands again as
-/// it was. The caller owes the room for the changes.
+/// it was.
 pub(crate) fn tell_all(
     alloc: Global,
     image: &mut Image,
@@ -112,7 +130,7 @@ pub(crate) fn tell_all(
     requires room { HasRoom image.old.room course.now.patches.now }
     requires erased { course.now.erased.now ≡ erased_block image.old.disk.size }
     requires works { text.old.has_failed ≡ false }
-    ensures told { OnOk result (TellsAll image.old.disk course.now.patches.now at course.now.done
+    ensures told { OnOk result (TellsAll course.now.form image.old.disk course.now.patches.now at course.now.done
         text.old.bytes.items text.new.bytes.items) }
     ensures refused { IfErr result (λ fault. RefusesMounts fault (images_at image.old.disk course.now.patches.now at)) }
     ensures disk { image.new.disk ≡ image.old.disk }

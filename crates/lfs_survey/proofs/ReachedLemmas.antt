@@ -16,7 +16,7 @@ use Rattle.lfs_meta.specs.declared.tail.Tail.{Tail}
 use Rattle.lfs_survey.specs.Area.{AreFound, IsArea}
 use Rattle.lfs_survey.specs.Calls.{body_calls, calls_from, entries_call, found_calls, start_call, tail_calls}
 use Rattle.lfs_survey.specs.Looking.{IsFound, IsRefused, looked_behind}
-use Rattle.lfs_survey.specs.Reached.{AreasAreWhole, FoundAs, IsCalled, IsTurnedAway, Leads, Trail}
+use Rattle.lfs_survey.specs.Reached.{AreasAreComplete, FoundAs, IsCalled, IsTurnedAway, Leads, Trail}
 use Rattle.lfs_survey.specs.declared.area.Area.{Area}
 use Rattle.lfs_survey.specs.declared.call.Call.{Call}
 use Rattle.lfs_survey.specs.declared.found.Found.{Found}
@@ -109,12 +109,12 @@ module _ (d : Disk) (looked : List Bool) (start : Pair) (a : Area) (none : Unrea
         ],
       )
 
-  whole_from : (ms : List Pair) (p q : Pair) → IsCalled a p → Trail d p ms q → IsCalled a q ⊎ Any (IsTurnedAway a) (p ∷ ms)
-  whole_from [] p q called trail = inl (subst (IsCalled a) trail called)
-  whole_from (m ∷ ms) p q (c, has, at) (s, holds, leads, rest) =
+  complete_from : (ms : List Pair) (p q : Pair) → IsCalled a p → Trail d p ms q → IsCalled a q ⊎ Any (IsTurnedAway a) (p ∷ ms)
+  complete_from [] p q called trail = inl (subst (IsCalled a) trail called)
+  complete_from (m ∷ ms) p q (c, has, at) (s, holds, leads, rest) =
       let found = found_at d looked a.calls.items a.found.items c h.all has h.right in
       elim (leads_on c found.0 p m s found.2.0 found.1 at found.2.1 holds leads) [
-        | inl more ↦ elim (whole_from ms m q more rest) [
+        | inl more ↦ elim (complete_from ms m q more rest) [
           | inl end ↦ inl end
           | inr turned ↦ inr (any_later (IsTurnedAway a) p (m ∷ ms) turned)
         ]
@@ -122,7 +122,7 @@ module _ (d : Disk) (looked : List Bool) (start : Pair) (a : Area) (none : Unrea
       ]
 
 -- the law
-pub areas_whole : UnreadPairsHoldNoPart → AreasAreWhole
-areas_whole none d looked start q a ms h trail =
+pub areas_complete : UnreadPairsHoldNoPart → AreasAreComplete
+areas_complete none d looked start q a ms h trail =
     let first : IsCalled a start = subst (λ (cs : List Call). Calls cs start) (sym h.called) (start_call start, (0, omega arith, refl), refl) in
-    whole_from d looked start a none h ms start q first trail
+    complete_from d looked start a none h ms start q first trail

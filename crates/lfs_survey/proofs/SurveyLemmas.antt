@@ -136,7 +136,7 @@ pub record IsSurveying (d : Disk) (now : List Bool) (areas : List Area) (next : 
   pub root_area : IsArea d (unlooked d) root first
   pub others : BeginIn d (behind_area (unlooked d) first) (tails_behind (take next areas)) later
   pub looked : now ≡ behind_areas (unlooked d) areas
-  pub whole : All (λ a. All (λ p. is_open now p ≡ false) (area_tails a)) (take next areas)
+  pub complete : All (λ a. All (λ p. is_open now p ≡ false) (area_tails a)) (take next areas)
   pub within : next ≤ length areas
   pub len : length now ≡ d.count
 
@@ -149,7 +149,7 @@ surveying_begin d before now areas a none area after push = record {
   root_area = subst (λ (t : List Bool). IsArea d t root a) none area;
   others = tt;
   looked = after ∙ ap (λ (t : List Bool). behind_area t a) none ∙ ap (behind_areas (unlooked d)) (sym push);
-  whole = All-nil (λ (a : Area). All (λ p. is_open now p ≡ false) (area_tails a));
+  complete = All-nil (λ (a : Area). All (λ p. is_open now p ≡ false) (area_tails a));
   within = omega arith;
   len = ap length after ∙ after_len before a.calls.items a.found.items ∙ ap length none ∙ length-replicate d.count false;
 }
@@ -179,12 +179,12 @@ surveying_more d now after areas new next a h within is k =
       others = subst (λ (ps : List Pair). BeginIn d before ps (h.later ++ k.more)) (sym tails) wide;
       looked = k.looked ∙ ap (λ (t : List Bool). behind_areas t k.more) h.looked ∙ sym (behind_append (unlooked d) areas k.more)
           ∙ ap (behind_areas (unlooked d)) (sym k.added);
-      whole = subst (All (λ (x : Area). All (λ p. is_open after p ≡ false) (area_tails x))) (sym front)
+      complete = subst (All (λ (x : Area). All (λ p. is_open after p ≡ false) (area_tails x))) (sym front)
           (All-push (λ (x : Area). All (λ p. is_open after p ≡ false) (area_tails x)) (take next areas) a
           (All-weaker (λ (x : Area). All (λ p. is_open now p ≡ false) (area_tails x))
           (λ (x : Area). All (λ p. is_open after p ≡ false) (area_tails x))
           (λ x all. All-weaker (λ p. is_open now p ≡ false) (λ p. is_open after p ≡ false) (λ p shut. grows_shut now after p k.grows shut)
-          (area_tails x) all) (take next areas) h.whole) k.closed);
+          (area_tails x) all) (take next areas) h.complete) k.closed);
       within = omega (arith, ap length k.added, length-append areas k.more);
       len = k.len ∙ h.len;
     }
@@ -200,5 +200,5 @@ surveying_all d s next h done =
       root_area = h.root_area;
       others = subst (λ (xs : List Area). BeginIn d (behind_area (unlooked d) h.first) (tails_behind xs) h.later) all h.others;
       looked = h.looked;
-      whole = subst (All (λ (x : Area). All (λ p. is_open s.looked.items p ≡ false) (area_tails x))) all h.whole;
+      complete = subst (All (λ (x : Area). All (λ p. is_open s.looked.items p ≡ false) (area_tails x))) all h.complete;
     }

@@ -71,4 +71,4 @@ pub record IsSurvey (d : Disk) (s : Survey) : Type 0 where
   pub root_area : IsArea d (unlooked d) root first
   pub others : BeginIn d (behind_area (unlooked d) first) (tails_behind s.areas.items) later
   pub looked : s.looked.items ≡ behind_areas (unlooked d) s.areas.items
-  pub whole : All (λ a. All (λ p. is_open s.looked.items p ≡ false) (area_tails a)) s.areas.items
+  pub complete : All (λ a. All (λ p. is_open s.looked.items p ≡ false) (area_tails a)) s.areas.items

@@ -13,18 +13,14 @@ use crate::survey::Survey;
 use lfs_meta::Entry;
 use std::alloc::{AllocError, Global};
 
-/// The pair that is looked at at a place; `None` where there is none. Takes no memory.
-///
-/// Source: own.
+/// The pair that is looked at at a place; `None` where there is none.
 pub fn call_at(survey: &Survey, place: Place) -> Option<Call>
     ensures { result ≡ call_at survey.now.areas.items place }
 {
     survey.areas.get(place.area)?.calls.get(place.call).copied()
 }
 
-/// What is found at a place; `None` where there is none. Takes no memory.
-///
-/// Source: own.
+/// What is found at a place; `None` where there is none.
 pub fn found_at(survey: &Survey, place: Place) -> Option<&Found>
     ensures { option_map (λ f. f.now) result ≡ found_at survey.now.areas.items place }
 {
@@ -41,9 +37,7 @@ pub(crate) fn found_entries(found: &Found) -> &[Entry]
     }
 }
 
-/// The entry at a place; `None` where there is none. Takes no memory.
-///
-/// Source: own.
+/// The entry at a place; `None` where there is none.
 pub fn entry_at(survey: &Survey, place: EntryPlace) -> Option<&Entry>
     ensures { option_map (λ e. e.now) result ≡ entry_at survey.now.areas.items place }
 {
@@ -104,8 +98,6 @@ fn entry_places_in(
 }
 
 /// The places of all entries of a survey, in order. Takes memory.
-///
-/// Source: own.
 pub fn entry_places_of(alloc: Global, survey: &Survey) -> Result<Vec<EntryPlace>, AllocError>
     ensures { IfOk result (λ places. places.items ≡ entry_places_of survey.now.areas.items) }
 {

@@ -4,8 +4,6 @@ use crate::call::Call;
 use crate::found::Found;
 
 /// What is found from one pair on: over the entries that are directories, and over the hard tails.
-///
-/// Source: own.
 #[derive(Drop)]
 pub struct Area {
     /// The pairs, in the order in which they are looked at.

@@ -3,8 +3,6 @@
 use crate::way::Way;
 
 /// A pair that is looked at, with how it is come to.
-///
-/// Source: own.
 #[derive(Clone, Copy, Debug, PartialEq, Eq)]
 pub struct Call {
     /// How it is come to.

@@ -55,8 +55,6 @@ fn first_past_in(count: u32, survey: &Survey, places: &[Place]) -> Option<Place>
 
 /// The place of the first part of a survey behind which the thread goes on, to another directory, past an image of so many blocks; `None`
 /// where there is none. Takes memory.
-///
-/// Source: own.
 pub fn first_tail_past(
     alloc: Global,
     survey: &Survey,

@@ -109,8 +109,6 @@ fn first_without_chain_in<B: Blocks>(
 }
 
 /// The place of the first entry of a survey whose file has no chain of its head and its size; `None` where there is none. Takes memory.
-///
-/// Source: own.
 pub fn first_without_chain<B: Blocks>(
     alloc: Global,
     blocks: &B,

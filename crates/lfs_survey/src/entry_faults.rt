@@ -48,8 +48,6 @@ fn first_elsewhere_in(survey: &Survey, places: &[EntryPlace]) -> Option<EntryPla
 }
 
 /// The place of the first superblock of a survey behind the one with which it may begin; `None` where there is none. Takes memory.
-///
-/// Source: own.
 pub fn first_superblock_elsewhere(
     alloc: Global,
     survey: &Survey,
@@ -125,8 +123,6 @@ fn first_over_in(limits: Limits, survey: &Survey, places: &[EntryPlace]) -> Opti
 }
 
 /// The place of the first entry of a survey whose name, file or attribute is over these limits; `None` where there is none. Takes memory.
-///
-/// Source: own.
 pub fn first_oversized(
     alloc: Global,
     survey: &Survey,

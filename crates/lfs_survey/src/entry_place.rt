@@ -3,8 +3,6 @@
 use crate::place::Place;
 
 /// Where in a survey an entry is.
-///
-/// Source: own.
 #[derive(Clone, Copy, Debug, PartialEq, Eq)]
 pub struct EntryPlace {
     /// Where its part is.

@@ -4,8 +4,6 @@ use lfs_block::MountFault;
 use lfs_meta::Part;
 
 /// What is found at a pair.
-///
-/// Source: own.
 #[derive(Drop)]
 pub enum Found {
     /// It holds a part.

@@ -2,13 +2,13 @@
 
 ghost use Rattle.lfs_survey.specs.Lost.{LostAreasAreNotReached};
 ghost use Rattle.lfs_survey.specs.Place.{SurveysAreRight};
-ghost use Rattle.lfs_survey.specs.Reached.{AreasAreWhole};
+ghost use Rattle.lfs_survey.specs.Reached.{AreasAreComplete};
 
 use lfs_meta::unread_pairs_hold_no_part;
 
 /// An area has each pair that a trail from its start leads to, unless a pair on the trail was turned away.
-pub fn areas_are_whole()
-    ensures { AreasAreWhole }
+pub fn areas_are_complete()
+    ensures { AreasAreComplete }
 {
     unread_pairs_hold_no_part();
 }

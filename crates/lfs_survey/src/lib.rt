@@ -1,52 +1,75 @@
-//! A survey of an image that needn't mount: what is found at each pair that its tree and its thread lead to.
+//! A survey of an image that needn't mount: what is found at each pair that its tree and its thread lead to, and places in that, as they
+//! are told: where a fault is, and what is lost.
 #![tactic(auto)]
 
+mod all_lowered;
 mod all_places;
 mod area;
+mod blocks_text;
 mod call;
 mod call_faults;
 mod calling;
 mod chain_place;
+mod circle_line;
 mod entry_faults;
+mod entry_lines;
 mod entry_place;
+mod fault_line;
 mod found;
 mod laws;
 mod limits;
+mod lines;
 mod lone;
 mod lone_pairs;
 mod looking;
 mod lost;
 mod order_place;
+mod owners;
+mod pair_lines;
+mod path_text;
 mod place;
+mod placed_text;
 mod placing;
 mod shared_place;
+mod shown;
 mod survey;
 mod surveying;
 mod surveying_all;
+mod twice_lines;
 mod unnamed_place;
 mod unread;
 mod way;
+mod wrong_pointer;
 
 pub use all_places::{call_at, entry_at, entry_places_of, found_at};
 pub use area::Area;
+pub use blocks_text::BlocksText;
 pub use call::Call;
 pub use call_faults::first_tail_past;
 pub use chain_place::first_without_chain;
 pub use entry_faults::{first_oversized, first_superblock_elsewhere};
+pub use entry_lines::{chain_line_at, chain_of};
 pub use entry_place::EntryPlace;
+pub use fault_line::{FaultPlace, fault_place};
 pub use found::Found;
-pub use laws::{areas_are_whole, lost_areas_are_not_reached, surveys_are_right};
+pub use laws::{areas_are_complete, lost_areas_are_not_reached, surveys_are_right};
 pub use limits::stated_limits;
+pub use lines::Lines;
 pub use lone::lone_areas;
 pub use looking::look_at;
 pub use lost::lost_place;
 pub use order_place::{entry_before, first_misplaced};
+pub use owners::Owners;
+pub use pair_lines::{past_line, unread_line_at};
 pub use place::Place;
+pub use placed_text::{PlacedPath, blocks_at};
 pub use placing::first_place;
 pub use shared_place::{chain_at, first_shared};
+pub use shown::Shown;
 pub use survey::Survey;
 pub use surveying::survey_from;
 pub use surveying_all::survey_all;
+pub use twice_lines::pair_line;
 pub use unnamed_place::first_unnamed;
 pub use unread::has_unread;
 pub use way::Way;

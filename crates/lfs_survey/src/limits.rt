@@ -55,7 +55,7 @@ fn limits_in(entry: &Entry) -> Option<Limits>
     })
 }
 
-/// The limits that the first entry of a survey states, where it is a superblock. Takes no memory.
+/// The limits that the first entry of a survey states, where it is a superblock.
 ///
 /// Source: SPEC.md, "0x0ff superblock".
 pub fn stated_limits(survey: &Survey) -> Option<Limits>

@@ -34,11 +34,9 @@ fn areas_along<B: Blocks>(
 }
 
 /// What is found of blocks by themselves: of all that a table says are neither looked at nor in use, each as both blocks of a pair. First
-/// from those on that no entry and no tail of another one names, since they lead to the others as whole pairs, of which the live
-/// block is chosen, and on along the thread behind them; then from those that are left. Behind it each block is one that the table says
-/// is looked at, or holds no part by itself. The caller owes a table of one flag a block. Takes memory.
-///
-/// Source: own.
+/// from those on that no entry and no tail of another one names, since they lead to the others as whole pairs, of which the live block is
+/// chosen, and on along the thread behind them; then from those that are left. Behind it each block is one that the table says is looked
+/// at, or holds no part by itself. Takes memory.
 pub fn lone_areas<B: Blocks>(
     alloc: Global,
     blocks: &B,
@@ -46,7 +44,7 @@ pub fn lone_areas<B: Blocks>(
 ) -> Result<Vec<Area>, AllocError>
     requires len { length looked.old ≡ (B.disk blocks.now).count }
     ensures areas { IfOk result (λ areas. AreLone (B.disk blocks.now) looked.old looked.new areas.items) }
-    ensures whole { IfOk result (λ areas. NoneIsLeft (B.disk blocks.now) looked.new) }
+    ensures complete { IfOk result (λ areas. NoneIsLeft (B.disk blocks.now) looked.new) }
 {
     let mut named = vec![in alloc; false; blocks.count() as usize]?;
     let lone = find_lone(alloc, blocks, looked, &mut named)?;

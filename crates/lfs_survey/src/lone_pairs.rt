@@ -110,8 +110,7 @@ fn add_lone<B: Blocks>(
     Ok(())
 }
 
-/// The blocks that weren't looked at and hold parts by themselves, as pairs. The blocks that these parts name are marked in `named`. The
-/// caller owes a table of one flag a block.
+/// The blocks that weren't looked at and hold parts by themselves, as pairs. The blocks that these parts name are marked in `named`.
 pub(crate) fn find_lone<B: Blocks>(
     alloc: Global,
     blocks: &B,

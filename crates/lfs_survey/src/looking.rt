@@ -17,7 +17,7 @@ pub(crate) fn is_closed(looked: &[bool], block: u32) -> bool
     index >= looked.len() || looked[index]
 }
 
-/// Whether both blocks of a pair are the table's, and weren't looked at. Takes no memory.
+/// Whether both blocks of a pair are the table's, and weren't looked at.
 pub(crate) fn is_open(looked: &[bool], pair: (u32, u32)) -> bool
     ensures { result ≡ is_open looked.now pair }
 {
@@ -75,10 +75,7 @@ fn turned_away(len: usize, pair: (u32, u32)) -> MountFault
 }
 
 /// What is found at a pair, whose blocks are then marked as looked at: nothing where a block of it isn't the image's (`BlockRange`) or
-/// was looked at before (`BlockTwice`), else what `read_pair` gives or refuses. The caller owes a table of one flag a
-/// block. Takes memory.
-///
-/// Source: own.
+/// was looked at before (`BlockTwice`), else what `read_pair` gives or refuses. Takes memory.
 pub fn look_at<B: Blocks>(
     alloc: Global,
     blocks: &B,

@@ -6,9 +6,7 @@ use crate::place::Place;
 use crate::survey::Survey;
 
 /// The first place of a survey to which no path leads: where its second area begins, which the first one doesn't have; `None` where there
-/// is none. Takes no memory.
-///
-/// Source: own.
+/// is none.
 pub fn lost_place(survey: &Survey) -> Option<Place>
     ensures { IsLostPlace survey.now.areas.items result }
 {

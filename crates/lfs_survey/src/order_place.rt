@@ -41,9 +41,7 @@ fn entry_before_part(survey: &Survey, place: Place) -> Option<&Entry>
     entry_behind(&area.found, area.calls.get(place.call)?.way)
 }
 
-/// The entry before the one at a place, in its directory; `None` where there is none. Takes no memory.
-///
-/// Source: own.
+/// The entry before the one at a place, in its directory; `None` where there is none.
 pub fn entry_before(survey: &Survey, place: EntryPlace) -> Option<&Entry>
     ensures { option_map (λ e. e.now) result ≡ entry_before survey.now.areas.items place }
 {
@@ -92,8 +90,6 @@ fn first_misplaced_in(survey: &Survey, places: &[EntryPlace]) -> Option<EntryPla
 
 /// The place of the first entry of a survey that stands in its directory behind one before which its name comes; `None` where there is
 /// none. Takes memory.
-///
-/// Source: own.
 pub fn first_misplaced(alloc: Global, survey: &Survey) -> Result<Option<EntryPlace>, AllocError>
     ensures { IfOk result (IsFirstOf (IsMisplaced survey.now.areas.items) (entry_places_of survey.now.areas.items)) }
 {

@@ -1,8 +1,6 @@
 //! Where in a survey something is.
 
 /// Where in a survey something is. The numbers count from 0.
-///
-/// Source: own.
 #[derive(Clone, Copy, Debug, PartialEq, Eq)]
 pub struct Place {
     /// The area.

@@ -32,9 +32,7 @@ fn first_refused(found: &[Found], fault: MountFault) -> Option<usize>
     None
 }
 
-/// The first place of a survey at which a pair isn't read for this fault; `None` where there is none. Takes no memory.
-///
-/// Source: own.
+/// The first place of a survey at which a pair isn't read for this fault; `None` where there is none.
 pub fn first_place(survey: &Survey, fault: MountFault) -> Option<Place>
     ensures { IsFirstPlace fault survey.now.areas.items result }
 {

@@ -32,8 +32,6 @@ fn body_chain<B: Blocks>(alloc: Global, blocks: &B, body: &Body) -> Result<Vec<u
 }
 
 /// The blocks of the chain of the entry at a place; none where there is no entry, or it has no chain. Takes memory.
-///
-/// Source: own.
 pub fn chain_at<B: Blocks>(
     alloc: Global,
     blocks: &B,
@@ -70,8 +68,6 @@ fn first_shared_in<B: Blocks>(
 
 /// The place of the first entry of a survey whose chain has a block that was looked at, or that the chain of an entry before it has; `None`
 /// where no block has two uses so. Takes memory.
-///
-/// Source: own.
 pub fn first_shared<B: Blocks>(
     alloc: Global,
     blocks: &B,

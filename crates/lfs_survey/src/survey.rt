@@ -3,8 +3,6 @@
 use crate::area::Area;
 
 /// All that is found of an image, over its tree and its thread.
-///
-/// Source: own.
 #[derive(Drop)]
 pub struct Survey {
     /// The areas, the root's first.

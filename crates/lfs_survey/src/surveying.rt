@@ -12,10 +12,7 @@ use lfs_block::Blocks;
 use std::alloc::{AllocError, Global};
 
 /// What is found from a pair on: there, and at each pair that what is found leads to, by an entry that is a directory or by a hard tail,
-/// in the order in which they are come to. The blocks that were looked at aren't looked at again. The caller owes a table of one
-/// flag a block. Takes memory.
-///
-/// Source: own.
+/// in the order in which they are come to. The blocks that were looked at aren't looked at again. Takes memory.
 pub fn survey_from<B: Blocks>(
     alloc: Global,
     blocks: &B,

@@ -74,8 +74,6 @@ pub(crate) fn add_areas<B: Blocks>(
 
 /// All that is found of an image, which needn't mount: what the root leads to, and then what each pair leads to at which the thread goes
 /// on behind what is found, where it is open. Takes memory.
-///
-/// Source: own.
 pub fn survey_all<B: Blocks>(alloc: Global, blocks: &B) -> Result<Survey, AllocError>
     ensures { IfOk result (IsSurvey (B.disk blocks.now)) }
 {

@@ -96,8 +96,6 @@ fn first_unnamed_in(survey: &Survey, keys: &BTreeSet<u64>, places: &[Place]) -> 
 
 /// The place of the first pair of a survey that an entry leads to and at which no directory of the thread begins: it is neither the root's
 /// nor one at which the thread goes on to another directory; `None` where there is none. Takes memory.
-///
-/// Source: own.
 pub fn first_unnamed(alloc: Global, survey: &Survey) -> Result<Option<Place>, AllocError>
     ensures { IfOk result (IsFirstOf (BeginsNothing survey.now.areas.items) (places_of survey.now.areas.items)) }
 {

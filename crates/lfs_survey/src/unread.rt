@@ -34,9 +34,7 @@ fn is_cut(area: &Area) -> bool
 }
 
 /// Whether a pair of a survey wasn't read for what its blocks hold, of the faults `NoValidCommit`, `UnknownTag`, `BadTag`,
-/// `IncompleteEntry` and `BadName`: then what hangs below it is reached by nothing. Takes no memory.
-///
-/// Source: own.
+/// `IncompleteEntry` and `BadName`: then what hangs below it is reached by nothing.
 pub fn has_unread(survey: &Survey) -> bool
     ensures { result ≡ has_unread survey.now.areas.items }
 {

@@ -1,8 +1,6 @@
 //! How a pair is come to.
 
 /// How a pair is come to. The numbers count from 0.
-///
-/// Source: own.
 #[derive(Clone, Copy, Debug, PartialEq, Eq)]
 pub enum Way {
     /// It is begun with.

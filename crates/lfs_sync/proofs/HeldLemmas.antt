@@ -148,7 +148,7 @@ module _ (shows : RowsShowTheTree) (d : Disk) (m : MountedValue) (is : IsMountOf
       let e = outlined_there is.volume (at ++ rest) (entry_at is.volume (at ++ rest)) x refl there in
       let found : entry_at m.outline (at ++ rest) ≡ Some e.0 =
       ap (λ (v : Volume). entry_at v (at ++ rest)) is.outline ∙ outlined_at is.volume (at ++ rest) ∙ e.1 in
-      absurd (none_shown d at rest m.rows (record { path = at ++ rest; entry = e.0 }) none (is.rows.whole (at ++ rest) e.0 found) refl)
+      absurd (none_shown d at rest m.rows (record { path = at ++ rest; entry = e.0 }) none (is.rows.complete (at ++ rest) e.0 found) refl)
 
   by_shown : (rest : Path) (o : Option Node) → shown_at (held_of d at m.rows) rest ≡ o
       → shown_at (held_of d at m.rows) rest ≡ tree is.volume (at ++ rest)
@@ -159,7 +159,7 @@ pub rows_are_held : RowsShowTheTree → RowsAreHeld
 rows_are_held shows d m is at disk = record {
   rise = held_rise d at m.rows is.rows.rise;
   right = right shows d m is at disk;
-  whole = λ rest. by_shown shows d m is at disk rest (shown_at (held_of d at m.rows) rest) refl;
+  complete = λ rest. by_shown shows d m is at disk rest (shown_at (held_of d at m.rows) rest) refl;
 }
 
 -- ---- trees of volumes

@@ -7,7 +7,7 @@ use Rattle.lfs_fs.specs.Listed.{Listed, path_after, row_after, rows_after}
 use Rattle.lfs_fs.specs.Path.{Path}
 use Rattle.lfs_fs.specs.RowShown.{shown_node}
 use Rattle.lfs_command.specs.PathMap.{below}
-use Rattle.lfs_listing.specs.Comparing.{AreWhole, IsWhole}
+use Rattle.lfs_listing.specs.Comparing.{AreComplete, IsComplete}
 use Rattle.lfs_sync.specs.Shown.{Shown, held_by, held_of}
 use Rattle.lfs_listing.specs.Below.{names}
 use Rattle.lfs_sync.specs.Sides.{CanBeRead, HoldsMore, held_all, held_shown}
@@ -39,17 +39,17 @@ module _ (at q now : Path) (left later : List Listed) (x : Listed) (held : List 
       ∙ ap (λ (l : List Listed). held_all d held ++ held_of d at (rows_after q l)) (sym first)
       ∙ way
 
-  whole_less : (d : Disk) → AreWhole d (rows_after q left) → IsWhole d x.entry.body × AreWhole d (rows_after now later)
-  whole_less d whole =
-      let here = subst (λ (l : List Listed). AreWhole d (rows_after q l)) first whole in
-      (here.0, subst (λ (p : Path). AreWhole d (rows_after p later)) (sym path) here.1)
+  complete_less : (d : Disk) → AreComplete d (rows_after q left) → IsComplete d x.entry.body × AreComplete d (rows_after now later)
+  complete_less d complete =
+      let here = subst (λ (l : List Listed). AreComplete d (rows_after q l)) first complete in
+      (here.0, subst (λ (p : Path). AreComplete d (rows_after p later)) (sym path) here.1)
 
-  whole_more : (d : Disk) (h : HeldRow) → h.row ≡ x → CanBeRead d held → AreWhole d (rows_after q left)
-      → CanBeRead d (held ++ h ∷ []) × AreWhole d (rows_after now later)
-  whole_more d h same can whole =
-      let here = whole_less d whole in (
-        All-push (λ (y : HeldRow). IsWhole d y.row.entry.body) held h can
-            (subst (λ (y : Listed). IsWhole d y.entry.body) (sym same) here.0),
+  complete_more : (d : Disk) (h : HeldRow) → h.row ≡ x → CanBeRead d held → AreComplete d (rows_after q left)
+      → CanBeRead d (held ++ h ∷ []) × AreComplete d (rows_after now later)
+  complete_more d h same can complete =
+      let here = complete_less d complete in (
+        All-push (λ (y : HeldRow). IsComplete d y.row.entry.body) held h can
+            (subst (λ (y : Listed). IsComplete d y.entry.body) (sym same) here.0),
         here.1,
       )
 
@@ -62,8 +62,8 @@ module _ (at q now : Path) (left later : List Listed) (x : Listed) (held : List 
       ap (λ (l : List HeldRow). held_all d l ++ held_of d at (rows_after now later)) more
       ∙ shown_more d all h row_is (inside ∙ ap (λ (p : Path). Some p) (sym path_is)) way
 
-  pub whole_now : (d : Disk) (new : List HeldRow) (o : Option Path) → HoldsMore o x held new
-      → CanBeRead d held × AreWhole d (rows_after q left) → CanBeRead d new × AreWhole d (rows_after now later)
-  whole_now d new None same (can, whole) = (subst (CanBeRead d) (sym same) can, (whole_less d whole).1)
-  whole_now d new (Some rest) (h, path_is, row_is, more) (can, whole) =
-      subst (λ (l : List HeldRow). CanBeRead d l × AreWhole d (rows_after now later)) (sym more) (whole_more d h row_is can whole)
+  pub complete_now : (d : Disk) (new : List HeldRow) (o : Option Path) → HoldsMore o x held new
+      → CanBeRead d held × AreComplete d (rows_after q left) → CanBeRead d new × AreComplete d (rows_after now later)
+  complete_now d new None same (can, complete) = (subst (CanBeRead d) (sym same) can, (complete_less d complete).1)
+  complete_now d new (Some rest) (h, path_is, row_is, more) (can, complete) =
+      subst (λ (l : List HeldRow). CanBeRead d l × AreComplete d (rows_after now later)) (sym more) (complete_more d h row_is can complete)

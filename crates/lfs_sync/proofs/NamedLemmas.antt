@@ -76,8 +76,8 @@ lacking_named tree front [] names = All-nil HasNames
 lacking_named tree front (n ∷ []) names = All-nil HasNames
 lacking_named tree front (n ∷ m ∷ ns) names =
     let first : Path = front ++ n ∷ [] in
-    let whole : All IsName (first ++ m ∷ ns) = subst (All IsName) (sym (append_assoc front (n ∷ []) (m ∷ ns))) names in
-    by (is_some (tree first)) first (All-left IsName first (m ∷ ns) whole) (lacking_named tree first (m ∷ ns) whole)
+    let complete : All IsName (first ++ m ∷ ns) = subst (All IsName) (sym (append_assoc front (n ∷ []) (m ∷ ns))) names in
+    by (is_some (tree first)) first (All-left IsName first (m ∷ ns) complete) (lacking_named tree first (m ∷ ns) complete)
   where
     by : (b : Bool) (first : Path) → All IsName first → All HasNames (lacking tree first (m ∷ ns))
         → All HasNames (if b then lacking tree first (m ∷ ns) else Mkdir first ∷ lacking tree first (m ∷ ns))

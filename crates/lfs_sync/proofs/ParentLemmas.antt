@@ -68,16 +68,16 @@ abbrev LacksAt : (Path → Option Node) → Path → Path → Path → Option No
 LacksAt tree front ns q old =
     done_all (front ++ q) (lacking tree front ns) old ≡ parent_by (below q ns) (tree (front ++ q)) old
 
-none_or_whole : (b : Bool) (here old : Option Node) → old ≡ parent_by (if b then Some [] else None) here old
-none_or_whole true here old = refl
-none_or_whole false here old = refl
+none_or_complete : (b : Bool) (here old : Option Node) → old ≡ parent_by (if b then Some [] else None) here old
+none_or_complete true here old = refl
+none_or_complete false here old = refl
 
 none_either : (b : Bool) (here old : Option Node) → old ≡ parent_by (if b then None else None) here old
 none_either true here old = refl
 none_either false here old = refl
 
 last_by : (n k : Name) (q : Path) (here old : Option Node) → old ≡ parent_by (below (k ∷ q) (n ∷ [])) here old
-last_by n k [] here old = none_or_whole (bytes_eq k n) here old
+last_by n k [] here old = none_or_complete (bytes_eq k n) here old
 last_by n k (j ∷ q) here old = none_either (bytes_eq k n) here old
 
 same_bytes : (n : Name) → bytes_eq n n ≡ true
@@ -197,7 +197,7 @@ none_there None same none = refl
 none_there (Some x) same none = absurd (cc (same, none))
 
 module _ (tree : Path → Option Node) (to : Path) (top : is_directory (tree []) ≡ true) (is : IsRooted tree)
-    (whole : is_some (tree to) ≡ is_directory (tree to)) where
+    (complete : is_some (tree to) ≡ is_directory (tree to)) where
   made_simple : AllByRecursion IsSimple (lacking tree [] to ++ Mkdir to ∷ [])
   made_simple = simple_append (lacking tree [] to) (Mkdir to ∷ []) (lacking_simple tree [] to) (tt, tt)
 
@@ -210,7 +210,7 @@ module _ (tree : Path → Option Node) (to : Path) (top : is_directory (tree [])
   made_there none (k ∷ q) =
       done_append (k ∷ q) (lacking tree [] to) (Mkdir to ∷ []) (tree (k ∷ q))
       ∙ ap (done_all (k ∷ q) (Mkdir to ∷ [])) (lacks_at tree [] to k q (tree (k ∷ q)))
-      ∙ last_by_rest tree to k q (below (k ∷ q) to) refl (none_there (tree to) whole none)
+      ∙ last_by_rest tree to k q (below (k ∷ q) to) refl (none_there (tree to) complete none)
 
   made_by : (b : Bool) → is_directory (tree to) ≡ b → (path : Path)
       → equations (if b then [] else lacking tree [] to ++ Mkdir to ∷ []) tree path ≡ with_parents to tree path
@@ -218,7 +218,7 @@ module _ (tree : Path → Option Node) (to : Path) (top : is_directory (tree [])
   made_by false none path = done_is (lacking tree [] to ++ Mkdir to ∷ []) made_simple tree path ∙ made_there none path
 
 pub made_is_with_parents : MadeIsWithParents
-made_is_with_parents tree to top is whole path = made_by tree to top is whole (is_directory (tree to)) refl path
+made_is_with_parents tree to top is complete path = made_by tree to top is complete (is_directory (tree to)) refl path
 
 -- where something is each of its parents is, and none is made
 pub none_lacks : (tree : Path → Option Node) → IsRooted tree → (front ns : Path) → is_some (tree (front ++ ns)) ≡ true

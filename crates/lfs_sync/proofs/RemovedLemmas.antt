@@ -38,7 +38,7 @@ nothing_there at tree are path = elim (below_cases at path) [
 ]
   where
     inside : (rest : Path) → equations (remove_by at []) tree (at ++ rest) ≡ without at tree (at ++ rest)
-    inside rest = none_either (same_path at (at ++ rest)) (tree (at ++ rest)) (sym (are.whole rest)) ∙ without_inside at rest tree
+    inside rest = none_either (same_path at (at ++ rest)) (tree (at ++ rest)) (sym (are.complete rest)) ∙ without_inside at rest tree
 
 some_there : (at : Path) (tree : Path → Option Node) (r : Shown) (rs : List Shown) → AreHeld tree at (r ∷ rs) → (path : Path)
     → equations (removals at (r ∷ rs) []) tree path ≡ without at tree path
@@ -54,7 +54,7 @@ some_there at tree r rs are path =
         removing_there at rest (reverse (filter (goes []) (r ∷ rs))) (tree (at ++ rest))
         ∙ ap (λ (b : Bool). if b then None else tree (at ++ rest))
         (some_reverse rest (filter (goes []) (r ∷ rs)) ∙ ap (λ (l : List Shown). is_some (shown_at l rest)) (all_go (r ∷ rs))
-        ∙ ap (λ (o : Option Node). is_some o) (are.whole rest))
+        ∙ ap (λ (o : Option Node). is_some o) (are.complete rest))
         ∙ none_left (tree (at ++ rest)) ∙ without_inside at rest tree
 
 pub removed_is_without : RemovedIsWithout

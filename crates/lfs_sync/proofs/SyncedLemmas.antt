@@ -206,9 +206,9 @@ synced_by_rows order tree at held wanted are rise bare path =
   where
     inside : (rest : Path) → done_all (at ++ rest) (sync_commands at held wanted) (tree (at ++ rest)) ≡ synced at wanted tree (at ++ rest)
     inside rest =
-        ap (done_all (at ++ rest) (sync_commands at held wanted)) (sym (are.whole rest))
+        ap (done_all (at ++ rest) (sync_commands at held wanted)) (sym (are.complete rest))
         ∙ there order at rest held wanted are.rise rise (bare_at rest wanted bare)
-        ∙ ap (λ (o : Option Node). with_kept_at o (shown_at wanted rest)) (are.whole rest)
+        ∙ ap (λ (o : Option Node). with_kept_at o (shown_at wanted rest)) (are.complete rest)
         ∙ ap (λ (o : Option Path). synced_by o wanted (tree (at ++ rest))) (sym (below-append at rest))
 
 pub synced_is_the_folder : PathsAreOrdered → SyncedIsTheFolder
@@ -269,8 +269,8 @@ equal_by_rows tree at held wanted are right same =
     none_comes r is =
         is_there (shown_at held r.path) r.node
         (ap (with_kept_at (shown_at held r.path)) (sym is)
-        ∙ ap (λ (o : Option Node). with_kept_at o (shown_at wanted r.path)) (are.whole r.path)
-        ∙ at_rest r.path ∙ sym (are.whole r.path))
+        ∙ ap (λ (o : Option Node). with_kept_at o (shown_at wanted r.path)) (are.complete r.path)
+        ∙ at_rest r.path ∙ sym (are.complete r.path))
 
 pub equal_needs_nothing : EqualNeedsNothing
 equal_needs_nothing tree at held wanted are want same = equal_by_rows tree at held wanted are want.right same

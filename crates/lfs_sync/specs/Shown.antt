@@ -41,7 +41,7 @@ held_of d at (r ∷ rs) = held_by d r (below at r.path) (held_of d at rs)
 pub record AreHeld (tree : Path → Option Node) (at : Path) (held : List Shown) : Type 0 where
   pub rise : ShownRise held
   pub right : AllByRecursion (λ r. tree (at ++ r.path) ≡ Some r.node) held
-  pub whole : (rest : Path) → shown_at held rest ≡ tree (at ++ rest)
+  pub complete : (rest : Path) → shown_at held rest ≡ tree (at ++ rest)
 
 -- ---- a folder's
 

@@ -11,7 +11,7 @@ use crate::sync_row::SyncRow;
 use lfs_command::{Asked, Command};
 use std::alloc::{AllocError, Global};
 
-/// The contents of the row at a place; a directory's row has none, and neither has a place behind the last row. Takes no memory.
+/// The contents of the row at a place; a directory's row has none, and neither has a place behind the last row.
 pub(crate) fn bytes_at<'a>(rows: &[SyncRow<'a>], place: usize) -> Option<&'a [u8]>
     ensures { option_map (λ b. b.now) result ≡ bytes_at rows.now place }
 {
@@ -34,8 +34,6 @@ fn command_of<'a>(planned: &'a Planned, rows: &[SyncRow<'a>]) -> Asked<'a>
 }
 
 /// The commands of a plan, in its order, which borrow its texts and the contents of the rows that it was made of.
-///
-/// Source: own.
 pub fn commands_of<'a>(
     alloc: Global,
     plan: &'a [Planned],

@@ -4,7 +4,7 @@ ghost use Rattle.std.specs.Prelude.{◌≡◌};
 ghost use Rattle.std.specs.Option.{option_map};
 ghost use Rattle.lfs_block.specs.Disk.{Disk};
 ghost use Rattle.lfs_fs.specs.RowShown.{shown_node};
-ghost use Rattle.lfs_listing.specs.Comparing.{IsWhole};
+ghost use Rattle.lfs_listing.specs.Comparing.{IsComplete};
 ghost use Rattle.lfs_sync.specs.Shown.{wanted_node};
 ghost use Rattle.lfs_sync.specs.Synced.{same_contents, same_kind};
 
@@ -12,7 +12,7 @@ use lfs_block::Blocks;
 use lfs_fs::{Row, RowBody};
 use lfs_listing::has_contents;
 
-/// Whether a row has a file and there are bytes, or it has a directory and there are none. Takes no memory.
+/// Whether a row has a file and there are bytes, or it has a directory and there are none.
 pub(crate) fn same_kind(row: &Row<'_>, bytes: Option<&[u8]>) -> bool
     ensures { (d : Disk) → result ≡ same_kind (wanted_node (option_map (λ b. b.now) bytes.entry)) (shown_node d row.now.entry) }
 {
@@ -23,11 +23,9 @@ pub(crate) fn same_kind(row: &Row<'_>, bytes: Option<&[u8]>) -> bool
 }
 
 /// Whether a row has a file with these bytes, or a directory where there are none. Where the length is another one, nothing is read,
-/// and else slice by slice up to the first that differs. The caller owes that the row can be read. Takes no memory.
-///
-/// Source: own.
+/// and else slice by slice up to the first that differs.
 pub fn same_contents<B: Blocks>(disk: &B, row: &Row<'_>, bytes: Option<&[u8]>) -> bool
-    requires { IsWhole (B.disk disk.now) row.now.entry.body }
+    requires { IsComplete (B.disk disk.now) row.now.entry.body }
     ensures { result ≡ same_contents (shown_node (B.disk disk.now) row.now.entry) (wanted_node (option_map (λ b. b.now) bytes.entry)) }
 {
     match (&row.body, bytes) {

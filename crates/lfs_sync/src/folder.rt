@@ -9,7 +9,7 @@ use crate::sync_row::SyncRow;
 use lfs_extract::FolderRow;
 use std::alloc::{AllocError, Global};
 
-/// A row of a host's folder. Takes no memory.
+/// A row of a host's folder.
 fn sync_row(row: &FolderRow) -> SyncRow<'_>
     ensures { sync_text result ≡ folder_text row.now }
 {
@@ -20,8 +20,6 @@ fn sync_row(row: &FolderRow) -> SyncRow<'_>
 }
 
 /// The rows of a host's folder, in their order, which borrow its texts and contents. Want of memory is the only refusal.
-///
-/// Source: own.
 pub fn sync_rows(alloc: Global, folder: &[FolderRow]) -> Result<Vec<SyncRow<'_>>, AllocError>
     ensures { IfOk result (λ rows. (shown : List PathRow) → AreSpelled folder.now shown → AreFolderRows shown
         → AreRowsOf rows.items (map wanted_of shown)) }

@@ -4,7 +4,7 @@ ghost use Rattle.std.specs.Prelude.{◌≡◌, IfOk, OnOk, Some, is_some, true};
 ghost use Rattle.lfs_block.specs.Disk.{Disk};
 ghost use Rattle.lfs_command.specs.PathMap.{below};
 ghost use Rattle.lfs_fs.specs.Listed.{rows_listed};
-ghost use Rattle.lfs_listing.specs.Comparing.{AreWhole};
+ghost use Rattle.lfs_listing.specs.Comparing.{AreComplete};
 ghost use Rattle.lfs_sync.specs.Shown.{held_of};
 ghost use Rattle.lfs_listing.specs.Below.{names};
 ghost use Rattle.lfs_sync.specs.Sides.{CanBeRead, HoldsMore, held_all};
@@ -14,7 +14,7 @@ use lfs_fs::{Row, Rows};
 use lfs_listing::{follow_row, is_below};
 use std::alloc::{AllocError, Global};
 
-/// What is left of a path behind another. The caller owes that it lies there.
+/// What is left of a path behind another.
 fn rest_of<'a>(alloc: Global, path: &[&'a [u8]], at: &[&[u8]]) -> Result<Vec<&'a [u8]>, AllocError>
     requires { is_some (below (names at.now) (names path.now)) ≡ true }
     ensures { IfOk result (λ rest. below (names at.now) (names path.now) ≡ Some (names rest.items)) }
@@ -48,7 +48,7 @@ pub(crate) fn held_rows<'a>(
     at: &[&[u8]],
 ) -> Result<Vec<HeldRow<'a>>, AllocError>
     ensures shown { IfOk result (λ held. (d : Disk) → held_all d held.items ≡ held_of d (names at.now) (rows_listed rows.entry)) }
-    ensures whole { IfOk result (λ held. (d : Disk) → AreWhole d (rows_listed rows.entry) → CanBeRead d held.items) }
+    ensures complete { IfOk result (λ held. (d : Disk) → AreComplete d (rows_listed rows.entry) → CanBeRead d held.items) }
 {
     let mut path = Vec::new(alloc);
     let mut held = Vec::new(alloc);

@@ -100,8 +100,6 @@ fn with_parents(
 
 /// The commands that make a directory of an image, and the parents of it that lack, the first of them first: none where a directory is
 /// there. A file that is there is refused as by `mkdir`, and so is a text that spells no path. Want of memory is the only refusal.
-///
-/// Source: own.
 pub fn make_plan(alloc: Global, mounted: &Mounted, at: &[u8]) -> Result<Vec<Planned>, AllocError>
     ensures { IfOk result (λ plan. (d : Disk) (is : IsMountOf d mounted.now) (rows : List SyncRow)
         → IsPlanOf at.now kind.Mkdir (make_commands (tree is.volume)) rows (plan_asked rows plan.items)) }
@@ -117,8 +115,6 @@ pub fn make_plan(alloc: Global, mounted: &Mounted, at: &[u8]) -> Result<Vec<Plan
 
 /// The commands that put a file of an image, which gets the contents of the first row, and make its parents that lack, the first of them
 /// first. A text that spells no path is refused as by `put`. Want of memory is the only refusal.
-///
-/// Source: own.
 pub fn put_plan(alloc: Global, mounted: &Mounted, at: &[u8]) -> Result<Vec<Planned>, AllocError>
     ensures { IfOk result (λ plan. (d : Disk) (is : IsMountOf d mounted.now) (rows : List SyncRow)
         → IsPlanOf at.now (kind.Put 0) (λ path. put_commands (tree is.volume) path (unwrap_or (bytes_at rows 0) [])) rows

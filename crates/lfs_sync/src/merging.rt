@@ -31,7 +31,7 @@ impl Merging {
     ghost use Rattle.std.specs.Prelude.{◌≡◌, ◌<◌, ◌==◌, [], List, OnOk, false, length};
     ghost use Rattle.std.specs.declared.cmp.Ordering.TheVariants.{Equal, Greater, Less};
     ghost use Rattle.lfs_block.specs.Disk.{Disk};
-    ghost use Rattle.lfs_listing.specs.Comparing.{IsWhole};
+    ghost use Rattle.lfs_listing.specs.Comparing.{IsComplete};
     ghost use Rattle.lfs_sync.specs.Merging.{GoesOn, KeepsPlaces, PlansBoth, PlansHeld, PlansWanted, held_left, left, wanted_left};
     ghost use Rattle.lfs_listing.specs.Below.{names};
     ghost use Rattle.lfs_sync.specs.Sides.{CanBeRead, first_order, held_shown, wanted_shown};
@@ -39,7 +39,7 @@ impl Merging {
     ghost use Rattle.lfs_sync.specs.declared.sync_row.SyncRow.{SyncRow};
     ghost use Rattle.lfs_sync.specs.declared.wanted_row.WantedRow.{WantedRow};
 
-    /// Rows of which none is merged yet. Takes no memory.
+    /// Rows of which none is merged yet.
     pub(crate) fn new(alloc: Global) -> Merging
         ensures held { result.held ≡ 0 }
         ensures wanted { result.wanted ≡ 0 }
@@ -56,14 +56,14 @@ impl Merging {
         }
     }
 
-    /// Whether no row is left. Takes no memory.
+    /// Whether no row is left.
     pub(crate) fn is_done(&self, held: &[HeldRow<'_>], wanted: &[WantedRow<'_>]) -> bool
         ensures { result ≡ (left self.now held.now wanted.now == 0) }
     {
         held.len() <= self.held && wanted.len() <= self.wanted
     }
 
-    /// Whose row at hand comes first; of no rows it never does. Takes no memory.
+    /// Whose row at hand comes first; of no rows it never does.
     fn order(&self, held: &[HeldRow<'_>], wanted: &[WantedRow<'_>]) -> Ordering
         ensures { result ≡ first_order (held_left self.now held.now) (wanted_left self.now wanted.now) }
     {
@@ -119,7 +119,7 @@ impl Merging {
         Ok(())
     }
 
-    /// Plans what differs where both have a row. The caller owes that the image's can be read.
+    /// Plans what differs where both have a row.
     fn plan_change<B: Blocks>(
         &mut self,
         alloc: Global,
@@ -129,7 +129,7 @@ impl Merging {
         row: &HeldRow<'_>,
         other: &WantedRow<'_>,
     ) -> Result<(), AllocError>
-        requires { IsWhole (B.disk disk.now) row.now.row.entry.body }
+        requires { IsComplete (B.disk disk.now) row.now.row.entry.body }
         ensures places { OnOk result (KeepsPlaces self.old self.new) }
         ensures plans { OnOk result (PlansBoth (names at.now) rows.now self.old self.new (held_shown (B.disk disk.now) row.now)
             (wanted_shown rows.now other.now)) }
@@ -178,7 +178,7 @@ impl Merging {
         Ok(())
     }
 
-    /// Leaves both rows behind, which are at one path. The caller owes that the image's can be read.
+    /// Leaves both rows behind, which are at one path.
     fn take_both<B: Blocks>(
         &mut self,
         alloc: Global,
@@ -191,7 +191,7 @@ impl Merging {
         requires held { self.old.held < length held.now }
         requires wanted { self.old.wanted < length wanted.now }
         requires order { first_order (held_left self.old held.now) (wanted_left self.old wanted.now) ≡ Equal }
-        requires whole { CanBeRead (B.disk disk.now) held.now }
+        requires complete { CanBeRead (B.disk disk.now) held.now }
         ensures goes_on { OnOk result (GoesOn (B.disk disk.now) (names at.now) rows.now self.old self.new held.now wanted.now) }
         ensures fewer { OnOk result (left self.new held.now wanted.now < left self.old held.now wanted.now) }
     {
@@ -208,7 +208,7 @@ impl Merging {
         Ok(())
     }
 
-    /// Leaves what is at the least path behind. The caller owes that a row is left, and that the image's can be read.
+    /// Leaves what is at the least path behind.
     pub(crate) fn take_next<B: Blocks>(
         &mut self,
         alloc: Global,
@@ -219,7 +219,7 @@ impl Merging {
         wanted: &[WantedRow<'_>],
     ) -> Result<(), AllocError>
         requires some { (left self.old held.now wanted.now == 0) ≡ false }
-        requires whole { CanBeRead (B.disk disk.now) held.now }
+        requires complete { CanBeRead (B.disk disk.now) held.now }
         ensures goes_on { OnOk result (GoesOn (B.disk disk.now) (names at.now) rows.now self.old self.new held.now wanted.now) }
         ensures fewer { OnOk result (left self.new held.now wanted.now < left self.old held.now wanted.now) }
     {

@@ -1,8 +1,6 @@
 //! Commands that are planned.
 
 /// What is done at a path.
-///
-/// Source: own.
 #[derive(Clone, Copy, Drop)]
 pub enum PlannedKind {
     /// What stands there is removed.
@@ -14,8 +12,6 @@ pub enum PlannedKind {
 }
 
 /// A command that is planned, which keeps the text of its path.
-///
-/// Source: own.
 #[derive(Drop)]
 pub struct Planned {
     /// The text of the path.

@@ -37,8 +37,6 @@ fn removals_of(
 
 /// The commands that remove what stands at a path of an image and all below it, the last path first. The root, and a path where nothing is,
 /// have one command, which is refused as by `rm`; and so has a text that spells no path. Want of memory is the only refusal.
-///
-/// Source: own.
 pub fn remove_plan(alloc: Global, mounted: &Mounted, at: &[u8]) -> Result<Vec<Planned>, AllocError>
     ensures { IfOk result (λ plan. (d : Disk) (rows : List SyncRow)
         → IsPlanOf at.now Rm (λ path. remove_commands path (held_of d path mounted.now.rows)) rows (plan_asked rows plan.items)) }

@@ -1,8 +1,6 @@
 //! What a folder has at a path.
 
 /// What a folder has at a path below it: a directory, or a file with its contents.
-///
-/// Source: own.
 #[derive(Clone, Copy)]
 pub struct SyncRow<'a> {
     /// The text of the path: `/` for the folder itself, and else a slash before each name.

@@ -24,8 +24,7 @@ use lfs_block::Blocks;
 use lfs_fs::{Mounted, rows_show_the_tree};
 use std::alloc::{AllocError, Global};
 
-/// What is planned of rows of an image and of a folder. The caller owes that both stand in the order of paths, and that the image's can be
-/// read.
+/// What is planned of rows of an image and of a folder.
 fn merged<B: Blocks>(
     alloc: Global,
     disk: &B,
@@ -36,7 +35,7 @@ fn merged<B: Blocks>(
 ) -> Result<Merging, AllocError>
     requires rise { ShownRise (held_all (B.disk disk.now) held.now) }
     requires rises { ShownRise (wanted_all rows.now wanted.now) }
-    requires whole { CanBeRead (B.disk disk.now) held.now }
+    requires complete { CanBeRead (B.disk disk.now) held.now }
     ensures { IfOk result (λ m. IsMerged (names at.now) rows.now m (held_all (B.disk disk.now) held.now) (wanted_all rows.now wanted.now)) }
 {
     let mut merging = Merging::new(alloc);
@@ -62,8 +61,7 @@ fn joined(merging: Merging) -> Result<Vec<Planned>, AllocError>
     Ok(removed)
 }
 
-/// What makes of rows of an image those of a folder. The caller owes that both stand in the order of paths, and that the image's can be
-/// read.
+/// What makes of rows of an image those of a folder.
 fn planned_of<B: Blocks>(
     alloc: Global,
     disk: &B,
@@ -74,7 +72,7 @@ fn planned_of<B: Blocks>(
 ) -> Result<Vec<Planned>, AllocError>
     requires rise { ShownRise (held_all (B.disk disk.now) held.now) }
     requires rises { ShownRise (wanted_all rows.now wanted.now) }
-    requires whole { CanBeRead (B.disk disk.now) held.now }
+    requires complete { CanBeRead (B.disk disk.now) held.now }
     ensures { IfOk result (λ plan. plan_asked rows.now plan.items
         ≡ in_texts (sync_commands (names at.now) (held_all (B.disk disk.now) held.now) (wanted_all rows.now wanted.now))) }
 {
@@ -85,10 +83,7 @@ fn planned_of<B: Blocks>(
 /// The commands by which what stands at a path of a mounted image becomes what a folder holds, in the order in which they are carried
 /// out. What the folder hasn't, or has as another kind, is removed, the last path first. Then directories are made, and then files are
 /// put, in the order of paths. What is equal, attributes aside, is left alone, and a file is read only where its length is the folder's.
-/// A text that spells no path has one command, which is refused for that. The caller owes that `mounted` is the mount of the disk, and
-/// that the rows say what a folder has, in the order of paths. Want of memory is the only refusal.
-///
-/// Source: own.
+/// A text that spells no path has one command, which is refused for that. Want of memory is the only refusal.
 pub fn sync_plan<B: Blocks>(
     alloc: Global,
     disk: &B,

@@ -13,7 +13,7 @@ use crate::wanted_row::WantedRow;
 use lfs_fs::texts_spell_one_path;
 use std::alloc::{AllocError, Global};
 
-/// The names that a text spells. The caller owes that it spells a path.
+/// The names that a text spells.
 fn names_of<'a>(alloc: Global, text: &'a [u8]) -> Result<Vec<&'a [u8]>, AllocError>
     requires { (path : Path) × IsPathText text.now path }
     ensures { IfOk result (λ ns. IsPathText text.now (names ns.items)) }
@@ -24,7 +24,7 @@ fn names_of<'a>(alloc: Global, text: &'a [u8]) -> Result<Vec<&'a [u8]>, AllocErr
     }
 }
 
-/// The rows of a folder, with the names of their paths. The caller owes that they say what a folder has.
+/// The rows of a folder, with the names of their paths.
 pub(crate) fn wanted_rows<'a>(
     alloc: Global,
     rows: &[SyncRow<'a>],

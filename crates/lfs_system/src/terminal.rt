@@ -7,8 +7,11 @@ use crate::files::{
 use crate::folders::{is_below, is_other, kind_of, names_in};
 use crate::standard::{Closed, is_closed};
 use lfs_block::MAX_IMAGE_LENGTH;
-use lfs_host::{Folders, Host, HostFault, HostKind, Known, ListFault, Lock, NewFolder, ReadFault};
-use lfs_sink::{Out, Sink, Text, write_later, write_rest};
+use lfs_host::{
+    Folders, Host, HostFault, HostKind, Known, ListFault, Lock, NewFolder, Out, ReadFault, Sink,
+    Text, write_later, write_rest,
+};
+use lfs_json::{Form, Told};
 use std::alloc::{AllocError, Global};
 use std::fmt::Display;
 use std::fs::{self, File};
@@ -32,11 +35,11 @@ enum Subject {
 }
 
 /// The system's files, standard output and standard error.
-///
-/// Source: own.
 #[derive(Drop)]
 pub struct Terminal<'a> {
     rt: &'a HostRuntime,
+    /// The form of what is told on standard error.
+    form: Form,
     /// What stands in the place of a standard file that is closed.
     closed: Closed,
     out: Out<Printer<'a, HostRuntime>>,
@@ -59,10 +62,11 @@ pub struct Terminal<'a> {
 }
 
 impl<'a> Terminal<'a> {
-    /// The host that the runtime stands for. No file of the program is open yet. Takes no memory.
-    pub fn new(rt: &'a HostRuntime) -> Terminal<'a> {
+    /// The host that the runtime stands for, on whose standard error all is told in a form. No file of the program is open yet.
+    pub fn new(rt: &'a HostRuntime, form: Form) -> Terminal<'a> {
         Terminal {
             rt,
+            form,
             closed: Closed::new(rt),
             out: Out::new(io::writer(rt)),
             image: None,
@@ -114,10 +118,21 @@ impl<'a> Terminal<'a> {
         ReadFault::CannotRead
     }
 
+    /// Writes a text to standard error, in JSON by its alternate form.
+    fn tell<D: Display + Drop>(&self, text: D) {
+        let _ = match self.form {
+            Form::Text => self.rt.eprint(text),
+            Form::Json => self.rt.eprint(format_args!("{text:#}")),
+        };
+    }
+
     /// Says what the system said of something, where it said something.
     fn say_of<D: Display + Drop>(&self, name: D, said: Option<&io::Error>) {
         if let Some(error) = said {
-            let _ = self.rt.eprint(format_args!("lfsed: {name}: {error}\n"));
+            self.tell(Told {
+                of: name,
+                text: error,
+            });
         }
     }
 
@@ -411,7 +426,7 @@ impl Host for Terminal<'_> {
     }
 
     fn complain<D: Display + Drop>(&mut self, text: D) {
-        let _ = self.rt.eprint(text);
+        self.tell(text);
     }
 
     fn complain_of(&mut self, image: &str) {

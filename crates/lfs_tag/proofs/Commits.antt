@@ -82,7 +82,7 @@ closed_takes sum prev bytes f r t kind e =
     let plain : data_len f.item.word ≡ len_of f.item.word = plain_len (len_of f.item.word) live in
     let front : to_le_bytes w32 (crc sum f.stored) ≡ take 4 content = le_bytes_4 (take 4 content) _ (omega (arith, length-take 4 content))
     (IsBytes-take 4 content t.content_bytes) (sym value) in
-    let whole : content ≡ to_le_bytes w32 (crc sum f.stored) ++ drop 4 content =
+    let complete : content ≡ to_le_bytes w32 (crc sum f.stored) ++ drop 4 content =
     sym (take-append-drop 4 content) ∙ ap (λ (x : List ℕ). x ++ drop 4 content) (sym front) in
     let regroup : (f.stored ++ (to_le_bytes w32 (crc sum f.stored) ++ drop 4 content)) ++ f.rest
     ≡ (f.stored ++ to_le_bytes w32 (crc sum f.stored) ++ drop 4 content) ++ f.rest =
@@ -96,7 +96,7 @@ closed_takes sum prev bytes f r t kind e =
         not_deleted = live;
         padding = omega (arith, length-drop 4 content, t.len, plain);
       };
-      parts = t.parts ∙ ap (λ (x : List ℕ). f.stored ++ x ++ f.rest) whole ∙ regroup
+      parts = t.parts ∙ ap (λ (x : List ℕ). f.stored ++ x ++ f.rest) complete ∙ regroup
           ∙ ap (λ (x : List ℕ). (x ++ to_le_bytes w32 (crc sum x) ++ drop 4 content) ++ f.rest) (sym same);
       rest_bytes = t.rest_bytes;
     } in
@@ -208,11 +208,11 @@ last_again sum prev c more h e small low fits =
     let s : ℕ = crc sum w in
     let t : Item = closing_item s c.closing c.padding in
     let f : TagFront = record { stored = w; item = t; rest = more } in
-    let whole : sealed sum prev c ++ more ≡ w ++ t.content ++ more = ap (λ (x : List ℕ). x ++ more) (sealed-last sum prev c e) in
-    let front : IsBytes (w ++ t.content) = IsBytes-front (w ++ t.content) more (subst IsBytes whole fits) in
+    let complete : sealed sum prev c ++ more ≡ w ++ t.content ++ more = ap (λ (x : List ℕ). x ++ more) (sealed-last sum prev c e) in
+    let front : IsBytes (w ++ t.content) = IsBytes-front (w ++ t.content) more (subst IsBytes complete fits) in
     let below : s < 2 ^ 32 = crc-below sum w small (IsBytes-front w t.content front) in
     let read : tag_at prev (w ++ t.content ++ more) ≡ Some f = tag_again prev t more low h.valid (closing_len c s h) in
-    ap (commit_at sum prev) whole
+    ap (commit_at sum prev) complete
     ∙ commit_at-closed sum prev (w ++ t.content ++ more) f read h.kind
     ∙ closed-again s f h.not_deleted (omega arith) (from_le_bytes-to_le_bytes_4 s below)
 
@@ -229,9 +229,9 @@ commit_again-tags (t ∷ ts) closing padding sum prev more h small low fits =
     let front : List ℕ = w ++ t.content in
     let s : ℕ = crc (crc sum w) t.content in
     let inner : List ℕ = sealed s t.word c in
-    let whole : sealed sum prev (led_by t c) ++ more ≡ front ++ (inner ++ more) =
+    let complete : sealed sum prev (led_by t c) ++ more ≡ front ++ (inner ++ more) =
     ap (λ (x : List ℕ). x ++ more) (sealed-first sum prev t c) ∙ append_assoc front inner more in
-    let all : IsBytes (front ++ (inner ++ more)) = subst IsBytes whole fits in
+    let all : IsBytes (front ++ (inner ++ more)) = subst IsBytes complete fits in
     let ahead : IsBytes front = IsBytes-front front (inner ++ more) all in
     let item : IsItem t = h.tags.0 in
     let sums : s < 2 ^ 32 = crc-below (crc sum w) t.content (crc-below sum w small (IsBytes-front w t.content ahead))
@@ -239,7 +239,7 @@ commit_again-tags (t ∷ ts) closing padding sum prev more h small low fits =
     let f : TagFront = record { stored = w; item = t; rest = inner ++ more } in
     let read : tag_at prev (front ++ (inner ++ more)) ≡ Some f = tag_again prev t (inner ++ more) low item.valid item.content in
     let rest : IsCommit c = record { tags = h.tags.1; valid = h.valid; kind = h.kind; not_deleted = h.not_deleted; padding = h.padding } in
-    ap (commit_at sum prev) whole
+    ap (commit_at sum prev) complete
     ∙ commit_at-more sum prev (front ++ (inner ++ more)) f read item.kind
     ∙ ap (option_map (with_tag t)) (commit_again-tags ts closing padding s t.word more rest sums (omega (arith, item.valid))
     (IsBytes-back front (inner ++ more) all))

@@ -34,16 +34,16 @@ pub left_more : (sum prev : ℕ) (bytes : List ℕ) (word : ℕ) (rest : List �
 left_more sum prev bytes word rest f left e kind =
     let cut = tag_cut word rest f e in
     let front : List ℕ = before bytes rest in
-    let whole : (front ++ (f.stored ++ f.item.content)) ++ f.rest ≡ bytes =
+    let complete : (front ++ (f.stored ++ f.item.content)) ++ f.rest ≡ bytes =
     append_assoc front (f.stored ++ f.item.content) f.rest
     ∙ ap (λ (x : List ℕ). front ++ x) (append_assoc f.stored f.item.content f.rest ∙ sym cut.parts)
     ∙ left.parts in
     let is : before bytes f.rest ≡ front ++ (f.stored ++ f.item.content) =
-    before-is (front ++ (f.stored ++ f.item.content)) f.rest bytes whole in
+    before-is (front ++ (f.stored ++ f.item.content)) f.rest bytes complete in
     let sums : crc sum (before bytes f.rest) ≡ crc (crc (crc sum front) f.stored) f.item.content =
     ap (crc sum) is ∙ crc-append sum front (f.stored ++ f.item.content) ∙ crc-append (crc sum front) f.stored f.item.content in
     record {
-      parts = ap (λ (x : List ℕ). x ++ f.rest) is ∙ whole;
+      parts = ap (λ (x : List ℕ). x ++ f.rest) is ∙ complete;
       seen =
           ap (λ (s : ℕ). option_map commit_seen (commit_at s f.item.word f.rest)) sums
           ∙ sym (seen-with f (commit_at (crc (crc (crc sum front) f.stored) f.item.content) f.item.word f.rest))
@@ -64,12 +64,12 @@ pub left_closed : (sum prev : ℕ) (bytes : List ℕ) (word : ℕ) (rest : List 
 left_closed sum prev bytes word rest f left e kind =
     let cut = tag_cut word rest f e in
     let front : List ℕ = before bytes rest in
-    let whole : (front ++ f.stored) ++ (f.item.content ++ f.rest) ≡ bytes =
+    let complete : (front ++ f.stored) ++ (f.item.content ++ f.rest) ≡ bytes =
     append_assoc front f.stored (f.item.content ++ f.rest) ∙ ap (λ (x : List ℕ). front ++ x) (sym cut.parts) ∙ left.parts in
     let len : length (front ++ f.stored) ≡ length bytes - length rest + 4 =
     omega (arith, length-append front f.stored, length-append front rest, ap length left.parts, cut.len) in
     let covered : take (length bytes - length rest + 4) bytes ≡ front ++ f.stored =
-    ap (λ (b : List ℕ). take (length bytes - length rest + 4) b) (sym whole)
+    ap (λ (b : List ℕ). take (length bytes - length rest + 4) b) (sym complete)
     ∙ take_at (front ++ f.stored) (f.item.content ++ f.rest) (length bytes - length rest + 4) len in
     ap (λ (s : ℕ). option_map commit_seen (closed s f)) (ap (crc sum) covered ∙ crc-append sum front f.stored)
     ∙ ap (option_map commit_seen) (sym (commit_at-closed (crc sum front) word rest f e kind))

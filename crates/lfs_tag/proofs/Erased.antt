@@ -130,9 +130,9 @@ pub erased_block : (block : List ℕ) → 4 ≤ length block → IsBytes block �
 unfolding commits_bytes
 erased_block block long fits h =
     let made = make_log (take 4 block) (drop 4 block) [] (omega (arith, length-take 4 block)) tt (IsBytes-take 4 block fits) h in
-    let whole : (take 4 block ++ []) ++ drop 4 block ≡ block = ap (λ (x : List ℕ). x ++ drop 4 block) (append-nil (take 4 block))
+    let complete : (take 4 block ++ []) ++ drop 4 block ≡ block = ap (λ (x : List ℕ). x ++ drop 4 block) (append-nil (take 4 block))
     ∙ take-append-drop 4 block in
-    subst (λ (b : List ℕ). IsLog b [] (drop 4 block)) whole made
+    subst (λ (b : List ℕ). IsLog b [] (drop 4 block)) complete made
 
 pub first_commit : (block : List ℕ) (c : Commit) → IsCommit c → (new : List ℕ) → new ≡ commit_bytes (take 4 block) 0xffffffff c
     → 4 + length new ≤ length block → IsErased (drop (4 + length new) block)
@@ -230,9 +230,9 @@ next_commit block cs rest at c log erased e h new n fits =
     ap (λ (x : List ℕ). revision ++ x) (commits_bytes-more revision 0xffffffff cs c)
     ∙ sym (append_assoc revision (commits_bytes revision 0xffffffff cs) (commit_bytes (next_lead revision cs) (final_word 0xffffffff cs) c))
     ∙ ap (λ (x : List ℕ). front ++ x) (sym new-is) ∙ ap (λ (x : List ℕ). x ++ new) (sym before) in
-    let whole : revision ++ commits_bytes revision 0xffffffff (cs ++ c ∷ []) ++ behind ≡ put_at at new block =
+    let complete : revision ++ commits_bytes revision 0xffffffff (cs ++ c ∷ []) ++ behind ≡ put_at at new block =
     ap (λ (x : List ℕ). x ++ behind) spelled ∙ ap (λ (x : List ℕ). take at block ++ new ++ x) (sym after) in
-    subst (λ (b : List ℕ). IsLog b (cs ++ c ∷ []) behind) whole made
+    subst (λ (b : List ℕ). IsLog b (cs ++ c ∷ []) behind) complete made
 
 -- ---- the tags of a log
 

@@ -109,14 +109,14 @@ log_again [] sum prev rest h small low fits stop = log_from-none sum prev rest s
 log_again (c ∷ cs) sum prev rest h small low fits stop =
     let front : List ℕ = sealed sum prev c in
     let behind : List ℕ = logged 0xffffffff (next_word c) cs ++ rest in
-    let whole : (front ++ logged 0xffffffff (next_word c) cs) ++ rest ≡ front ++ behind =
+    let complete : (front ++ logged 0xffffffff (next_word c) cs) ++ rest ≡ front ++ behind =
     append_assoc front (logged 0xffffffff (next_word c) cs) rest in
-    let all : IsBytes (front ++ behind) = subst IsBytes whole fits in
+    let all : IsBytes (front ++ behind) = subst IsBytes complete fits in
     let first : commit_at sum prev (front ++ behind) ≡ Some (record { commit = c; rest = behind }) =
     commit_again sum prev c behind h.0 small low all in
     let stops : commit_at (sum_after 0xffffffff cs) (final_word (next_word c) cs) rest ≡ None =
     ap (λ (s : ℕ). commit_at s (final_word (next_word c) cs) rest) (sum_after-anew cs) ∙ stop in
-    ap (log_from sum prev) whole
+    ap (log_from sum prev) complete
     ∙ log_from-more sum prev (front ++ behind) (record { commit = c; rest = behind }) first
     ∙ ap (with_commit c) (log_again cs 0xffffffff (next_word c) rest h.1 (omega arith) (next_word-below c h.0)
     (IsBytes-back front behind all) stops)
@@ -130,8 +130,8 @@ tags_again-last sum prev c more h e low =
     let s : ℕ = crc sum w in
     let t : Item = closing_item s c.closing c.padding in
     let f : TagFront = record { stored = w; item = t; rest = more } in
-    let whole : sealed sum prev c ++ more ≡ w ++ t.content ++ more = ap (λ (x : List ℕ). x ++ more) (sealed-last sum prev c e) in
-    ap (tags_at prev) whole
+    let complete : sealed sum prev c ++ more ≡ w ++ t.content ++ more = ap (λ (x : List ℕ). x ++ more) (sealed-last sum prev c e) in
+    ap (tags_at prev) complete
     ∙ tags_at-closed prev (w ++ t.content ++ more) f (tag_again prev t more low h.valid (closing_len c s h)) h.kind
 
 tags_again-tags : (ts : List Item) (closing : ℕ) (padding : List ℕ) (sum prev : ℕ) (more : List ℕ)
@@ -146,12 +146,12 @@ tags_again-tags (t ∷ ts) closing padding sum prev more h low =
     let front : List ℕ = w ++ t.content in
     let s : ℕ = crc (crc sum w) t.content in
     let inner : List ℕ = sealed s t.word c in
-    let whole : sealed sum prev (led_by t c) ++ more ≡ front ++ (inner ++ more) =
+    let complete : sealed sum prev (led_by t c) ++ more ≡ front ++ (inner ++ more) =
     ap (λ (x : List ℕ). x ++ more) (sealed-first sum prev t c) ∙ append_assoc front inner more in
     let item : IsItem t = h.tags.0 in
     let f : TagFront = record { stored = w; item = t; rest = inner ++ more } in
     let rest : IsCommit c = record { tags = h.tags.1; valid = h.valid; kind = h.kind; not_deleted = h.not_deleted; padding = h.padding } in
-    ap (tags_at prev) whole
+    ap (tags_at prev) complete
     ∙ tags_at-more prev (front ++ (inner ++ more)) f (tag_again prev t (inner ++ more) low item.valid item.content) item.kind
     ∙ ap (λ (x : List Item). t ∷ x) (tags_again-tags ts closing padding s t.word more rest (omega (arith, item.valid)))
 
@@ -174,11 +174,11 @@ pub no_commit : (lead rest : List ℕ) (prev : ℕ) → IsBytes lead → IsBytes
     → commit_at (crc 0xffffffff lead) prev rest ≡ None
     → (c : Commit) (more : List ℕ) → IsCommit c → rest ≡ commit_bytes lead prev c ++ more → ⊥
 no_commit lead rest prev ahead fits low stop c more h e =
-    let whole : rest ≡ sealed (crc 0xffffffff lead) prev c ++ more = e ∙ ap (λ (x : List ℕ). x ++ more) (commit_bytes-sealed lead prev c) in
+    let complete : rest ≡ sealed (crc 0xffffffff lead) prev c ++ more = e ∙ ap (λ (x : List ℕ). x ++ more) (commit_bytes-sealed lead prev c) in
     let found = commit_again (crc 0xffffffff lead) prev c more h (crc-below 0xffffffff lead (omega arith) ahead) low
-    (subst IsBytes whole fits) in
+    (subst IsBytes complete fits) in
     let clash : commit_at (crc 0xffffffff lead) prev rest ≡ Some (record { commit = c; rest = more }) =
-    ap (commit_at (crc 0xffffffff lead) prev) whole ∙ found in
+    ap (commit_at (crc 0xffffffff lead) prev) complete ∙ found in
     absurd (cc (stop, clash))
 
 reads_none : (lead rest : List ℕ) (prev : ℕ) → IsBytes rest → ((c : Commit) (more : List ℕ) → IsCommit c
@@ -244,10 +244,10 @@ pub log_of-is : (block : List ℕ) (cs : List Commit) (rest : List ℕ) → IsBy
 log_of-is block cs rest h log =
     let revision : List ℕ = log.revision in
     let behind : List ℕ = commits_bytes revision 0xffffffff cs ++ rest in
-    let whole : block ≡ revision ++ behind = log.parts ∙ append_assoc revision (commits_bytes revision 0xffffffff cs) rest in
-    let all : IsBytes (revision ++ behind) = subst IsBytes whole h in
+    let complete : block ≡ revision ++ behind = log.parts ∙ append_assoc revision (commits_bytes revision 0xffffffff cs) rest in
+    let all : IsBytes (revision ++ behind) = subst IsBytes complete h in
     let stop : commit_at (sum_after (crc 0xffffffff revision) cs) (final_word 0xffffffff cs) rest ≡ None =
     ap (λ (s : ℕ). commit_at s (final_word 0xffffffff cs) rest) (sym (sum_after-lead revision cs))
     ∙ no_commit-none (next_lead revision cs) rest (final_word 0xffffffff cs)
     (IsBytes-back (commits_bytes revision 0xffffffff cs) rest (IsBytes-back revision behind all)) log.longest in
-    ap log_of whole ∙ log_of-parts revision rest cs log.revision_len log.each all stop
+    ap log_of complete ∙ log_of-parts revision rest cs log.revision_len log.each all stop

@@ -31,13 +31,13 @@ pub put_at-then : (at n : ℕ) (a b s : List ℕ) → n ≡ at + length a → n 
     → put_at n b (put_at at a s) ≡ put_at at (a ++ b) s
 put_at-then at n a b s e h =
     let front : List ℕ = take at s ++ a in
-    let whole : List ℕ = put_at at a s in
+    let complete : List ℕ = put_at at a s in
     let len : length front ≡ at + length a = omega (arith, h, e, length-append (take at s) a, length-take at s) in
-    let cut : take n whole ≡ front = take_at front (drop (at + length a) s) n (len ∙ sym e) in
-    let rest : drop (n + length b) whole ≡ drop (n + length b) s = drop-append-drop (at + length a) s front (n + length b)
+    let cut : take n complete ≡ front = take_at front (drop (at + length a) s) n (len ∙ sym e) in
+    let rest : drop (n + length b) complete ≡ drop (n + length b) s = drop-append-drop (at + length a) s front (n + length b)
     (omega (arith, e)) len in
     let past : n + length b ≡ at + length (a ++ b) = omega (arith, e, length-append a b) in
-    ap (λ (x : List ℕ). x ++ b ++ drop (n + length b) whole) cut
+    ap (λ (x : List ℕ). x ++ b ++ drop (n + length b) complete) cut
     ∙ ap (λ (x : List ℕ). front ++ b ++ x) rest
     ∙ ap (λ (k : ℕ). front ++ b ++ drop k s) past
     ∙ ap (λ (x : List ℕ). x ++ drop (at + length (a ++ b)) s) (append_assoc (take at s) a b)

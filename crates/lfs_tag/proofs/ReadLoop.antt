@@ -17,10 +17,10 @@ map_none f None e = refl
 map_none f (Some x) e = absurd cc
 
 -- `commits` commits are behind us, and what is left of the bytes `rest` gives the others of `whole`
-pub record ReadLoop (whole : Front) (all : List ℕ) (commits sum last : ℕ) (rest : List ℕ) : Type 0 where
-  pub count : commits + length (log_from sum last rest).commits ≡ length whole.commits
-  pub word : (log_from sum last rest).last ≡ whole.last
-  pub left : (log_from sum last rest).rest ≡ whole.rest
+pub record ReadLoop (complete : Front) (all : List ℕ) (commits sum last : ℕ) (rest : List ℕ) : Type 0 where
+  pub count : commits + length (log_from sum last rest).commits ≡ length complete.commits
+  pub word : (log_from sum last rest).last ≡ complete.last
+  pub left : (log_from sum last rest).rest ≡ complete.rest
   pub room : commits + length rest ≤ length all
 
 pub ReadLoop-first : (sum last : ℕ) (all : List ℕ) → ReadLoop (log_from sum last all) all 0 sum last all
@@ -32,33 +32,33 @@ ReadLoop-shorter sum last rest seen e =
     let m = map_some commit_seen (commit_at sum last rest) seen (sym e) in
     subst (λ (s : ℕ × List ℕ). length s.1 < length rest) m.2 (commit_at-shorter sum last rest m.0 m.1)
 
-pub ReadLoop-more : (whole : Front) (all : List ℕ) (commits sum last : ℕ) (rest : List ℕ) (seen : ℕ × List ℕ)
-    → ReadLoop whole all commits sum last rest
-    → Some seen ≡ option_map commit_seen (commit_at sum last rest) → ReadLoop whole all (commits + 1) 0xffffffff seen.0 seen.1
-ReadLoop-more whole all commits sum last rest seen h e =
+pub ReadLoop-more : (complete : Front) (all : List ℕ) (commits sum last : ℕ) (rest : List ℕ) (seen : ℕ × List ℕ)
+    → ReadLoop complete all commits sum last rest
+    → Some seen ≡ option_map commit_seen (commit_at sum last rest) → ReadLoop complete all (commits + 1) 0xffffffff seen.0 seen.1
+ReadLoop-more complete all commits sum last rest seen h e =
     let m = map_some commit_seen (commit_at sum last rest) seen (sym e) in
     let r : CommitFront = m.0 in
     let next : Front = log_from 0xffffffff (next_word r.commit) r.rest in
     let step : log_from sum last rest ≡ with_commit r.commit next = log_from-more sum last rest r m.1 in
     let k : length r.rest < length rest = commit_at-shorter sum last rest r m.1 in
     let counts : length (log_from sum last rest).commits ≡ suc (length next.commits) = ap (λ (f : Front). length f.commits) step in
-    let made : ReadLoop whole all (commits + 1) 0xffffffff (next_word r.commit) r.rest = record {
+    let made : ReadLoop complete all (commits + 1) 0xffffffff (next_word r.commit) r.rest = record {
       count = omega (arith, h.count, counts);
       word = sym (ap (λ (f : Front). f.last) step) ∙ h.word;
       left = sym (ap (λ (f : Front). f.rest) step) ∙ h.left;
       room = omega (arith, h.room, k);
     } in
-    subst (λ (s : ℕ × List ℕ). ReadLoop whole all (commits + 1) 0xffffffff s.0 s.1) m.2 made
+    subst (λ (s : ℕ × List ℕ). ReadLoop complete all (commits + 1) 0xffffffff s.0 s.1) m.2 made
 
 -- at the end nothing more is read
-pub record IsRead (whole : Front) (commits last : ℕ) (rest : List ℕ) : Type 0 where
-  pub count : commits ≡ length whole.commits
-  pub word : last ≡ whole.last
-  pub left : rest ≡ whole.rest
+pub record IsRead (complete : Front) (commits last : ℕ) (rest : List ℕ) : Type 0 where
+  pub count : commits ≡ length complete.commits
+  pub word : last ≡ complete.last
+  pub left : rest ≡ complete.rest
 
-pub ReadLoop-last : (whole : Front) (all : List ℕ) (commits sum last : ℕ) (rest : List ℕ) → ReadLoop whole all commits sum last rest
-    → None ≡ option_map commit_seen (commit_at sum last rest) → IsRead whole commits last rest
-ReadLoop-last whole all commits sum last rest h e =
+pub ReadLoop-last : (complete : Front) (all : List ℕ) (commits sum last : ℕ) (rest : List ℕ) → ReadLoop complete all commits sum last rest
+    → None ≡ option_map commit_seen (commit_at sum last rest) → IsRead complete commits last rest
+ReadLoop-last complete all commits sum last rest h e =
     let stop : commit_at sum last rest ≡ None = map_none commit_seen (commit_at sum last rest) (sym e) in
     let step : log_from sum last rest ≡ record { commits = []; last = last; rest = rest } = log_from-none sum last rest stop in
     let counts : length (log_from sum last rest).commits ≡ 0 = ap (λ (f : Front). length f.commits) step in

@@ -15,7 +15,7 @@ impl EditData<'_> {
     ghost use Rattle.std.specs.Prelude.{◌≡◌};
     ghost use Rattle.lfs_tag.specs.EditData.{data_bytes};
 
-    /// The bytes. Takes no memory.
+    /// The bytes.
     pub fn as_bytes(&self) -> &[u8]
         ensures { result.now ≡ data_bytes self.now }
     {

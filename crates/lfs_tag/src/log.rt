@@ -80,7 +80,7 @@ impl<'a> Log<'a> {
     ghost use Rattle.lfs_tag.specs.LogSeen.{log_seen};
     ghost use Rattle.lfs_tag.specs.Reading.{log_of};
 
-    /// The log of `block`, which has four bytes or more. Takes no memory.
+    /// The log of `block`, which has four bytes or more.
     pub fn read(block: &'a [u8]) -> Log<'a>
         requires { 4 ≤ length block.now }
         ensures seen { result ≡ log_seen block.now }
@@ -107,7 +107,7 @@ impl<'a> Log<'a> {
         }
     }
 
-    /// The tags of all commits, in order, each with its data, without those of checksums. Takes no memory.
+    /// The tags of all commits, in order, each with its data, without those of checksums.
     pub fn tags(&self) -> Tags<'a>
         ensures tags { result ≡ self.now.tags }
         ensures valid { AllByRecursion IsItem result }

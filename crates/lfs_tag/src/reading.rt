@@ -48,7 +48,7 @@ fn big_word(bytes: &[u8]) -> u32
     BigEndian::read_u32(bytes)
 }
 
-/// The tag at the front of `bytes`, behind the word `prev`; `None` where it isn't valid or runs past their end. Takes no memory.
+/// The tag at the front of `bytes`, behind the word `prev`; `None` where it isn't valid or runs past their end.
 ///
 /// Source: SPEC.md, "Metadata tags".
 #[tactic(auto, unfolding(crate::specs::Reading::tag_at))]
@@ -74,7 +74,7 @@ pub fn tag_at<'a>(prev: u32, bytes: &'a [u8]) -> Option<Found<'a>>
     })
 }
 
-/// The word that the tag behind a checksum's tag that closes a commit is XORed with. Takes no memory.
+/// The word that the tag behind a checksum's tag that closes a commit is XORed with.
 ///
 /// Source: SPEC.md, "0x5xx CRC".
 pub fn word_after(tag: Tag) -> u32
@@ -83,7 +83,7 @@ pub fn word_after(tag: Tag) -> u32
     tag.word() + (u32::from(tag.kind & 1) << 31)
 }
 
-/// The commit that a checksum's tag closes, if it holds the checksum `sum`; `None` else. Takes no memory.
+/// The commit that a checksum's tag closes, if it holds the checksum `sum`; `None` else.
 ///
 /// Source: SPEC.md, "0x5xx CRC"; that a tag which is deleted or shorter than four bytes closes none: own.
 #[tactic(auto, unfolding(crate::specs::Reading::closed))]

@@ -34,22 +34,21 @@ impl Tag {
     ghost use Rattle.std.specs.Prelude.{◌≡◌, ◌<◌, ◌≤◌, ◌^◌, MatchOption, IfSome, bit_xor};
     ghost use Rattle.lfs_tag.specs.Tag.{word_of, main_kind, chunk_of, data_len};
 
-    /// The tag's word. Takes no memory.
+    /// The tag's word.
     pub fn word(self) -> u32
         ensures { result ≡ word_of self }
     {
         (u32::from(self.kind) << 20) + (u32::from(self.id) << 10) + u32::from(self.len)
     }
 
-    /// The tag as it is stored behind the word `prev`. Takes no memory.
+    /// The tag as it is stored behind the word `prev`.
     pub fn encode(self, prev: u32) -> u32
         ensures { result ≡ bit_xor (word_of self) prev }
     {
         self.word() ^ prev
     }
 
-    /// The tag that is stored as `word` behind the word `prev`, `None` where its valid bit says that it is none. Takes
-    /// no memory.
+    /// The tag that is stored as `word` behind the word `prev`, `None` where its valid bit says that it is none.
     pub fn decode(word: u32, prev: u32) -> Option<Tag>
         ensures { MatchOption result (2 ^ 31 ≤ bit_xor word prev)
             (λ tag. (bit_xor word prev < 2 ^ 31) × (word_of tag ≡ bit_xor word prev)) }
@@ -65,21 +64,21 @@ impl Tag {
         })
     }
 
-    /// The upper 3 bits of the type. Takes no memory.
+    /// The upper 3 bits of the type.
     pub fn main_kind(self) -> u16
         ensures { result ≡ main_kind (word_of self) }
     {
         self.kind >> 8
     }
 
-    /// The lower 8 bits of the type. Takes no memory.
+    /// The lower 8 bits of the type.
     pub fn chunk(self) -> u16
         ensures { result ≡ chunk_of (word_of self) }
     {
         self.kind % 0x100
     }
 
-    /// The number of bytes that follow the tag: none where it is deleted. Takes no memory.
+    /// The number of bytes that follow the tag: none where it is deleted.
     pub fn data_len(self) -> usize
         ensures { result ≡ data_len (word_of self) }
     {

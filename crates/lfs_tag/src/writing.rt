@@ -106,7 +106,7 @@ fn checksum_from(block: &[u8], at: usize, end: usize) -> u32
 
 /// Writes a commit of `edits` into `block` at the place `at`, behind the word `prev`, up to a multiple of 16. The first
 /// commit of a block is the one at 4: its checksum covers the revision too. Gives the commit's end and the word that the
-/// next tag is XORed with. Takes no memory.
+/// next tag is XORed with.
 pub fn write_commit(block: &mut [u8], at: usize, prev: u32, edits: &[Edit]) -> (usize, u32)
     requires at { 4 ≤ at }
     requires fits { committed_end at (items edits.now) ≤ length block.old }
@@ -141,9 +141,7 @@ fn room_behind(room: usize, edits: &[Edit]) -> usize
     left
 }
 
-/// Whether a commit of `edits` at the place `at`, with its padding, ends within a block of `size` bytes. Takes no memory.
-///
-/// Source: own.
+/// Whether a commit of `edits` at the place `at`, with its padding, ends within a block of `size` bytes.
 pub fn commit_fits(at: usize, edits: &[Edit], size: usize) -> bool
     ensures { result ≡ nat_le (committed_end at (items edits.now)) size }
 {

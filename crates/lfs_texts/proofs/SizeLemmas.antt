@@ -60,7 +60,7 @@ none_within P v None iff none = iff
 none_within P v (Some x) iff none = absurd (cc)
 
 pub in_blocks : (bytes block : ℕ) → bytes % block ≡ 0 → bytes / block * block ≡ bytes
-in_blocks bytes block whole = omega (arith, div-add-mod' bytes block, whole)
+in_blocks bytes block complete = omega (arith, div-add-mod' bytes block, complete)
 
 -- ---- the size of a block
 

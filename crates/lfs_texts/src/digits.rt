@@ -6,9 +6,7 @@ ghost use Rattle.lfs_texts.specs.Digits.{SpellsByte, SpellsBytes, SpellsNoByte, 
 use hex::{FromHex, FromHexError};
 use std::alloc::{AllocError, Global};
 
-/// The byte that two hexadecimal digits in either case are. `None` for every other text. Takes no memory.
-///
-/// Source: own.
+/// The byte that two hexadecimal digits in either case are. `None` for every other text.
 pub fn byte_of(digits: &[u8]) -> Option<u8>
     ensures byte { IfSome result (λ byte. SpellsByte digits.now byte) }
     ensures none { IfNone result (SpellsNoByte digits.now) }
@@ -21,8 +19,6 @@ pub fn byte_of(digits: &[u8]) -> Option<u8>
 
 /// The bytes that hexadecimal digits in either case are, two of each; none for the empty text. `None` for every other text. A fault
 /// says only that a growth of memory was refused.
-///
-/// Source: own.
 pub fn bytes_of(alloc: Global, digits: &[u8]) -> Result<Option<Vec<u8>>, AllocError>
     ensures bytes { IfOk result (λ found. IfSome found (λ bytes. SpellsBytes digits.now bytes.items)) }
     ensures none { IfOk result (λ found. IfNone found (SpellsNoBytes digits.now)) }

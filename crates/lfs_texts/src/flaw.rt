@@ -3,8 +3,6 @@
 use crate::reason::Reason;
 
 /// What is wrong in a line that says no step, and where.
-///
-/// Source: own.
 #[derive(Clone, Copy, Debug, PartialEq, Eq)]
 pub struct Flaw {
     /// What is wrong.

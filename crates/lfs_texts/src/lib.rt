@@ -1,8 +1,9 @@
-//! What texts say: hexadecimal digits, sizes of images and of their blocks, and the lines of scripts.
+//! What texts say: hexadecimal digits, sizes of images and of their blocks, and the lines of scripts; and what is said of faults.
 #![tactic(auto)]
 
 mod digits;
 mod escapes;
+mod explanation;
 mod flaw;
 mod flaws;
 mod line_fault;
@@ -22,6 +23,7 @@ mod words;
 mod wrong_word;
 
 pub use digits::{byte_of, bytes_of};
+pub use explanation::{Explanation, explained, explanations};
 pub use flaw::Flaw;
 pub use line_fault::LineFault;
 pub use one_change::first_other;

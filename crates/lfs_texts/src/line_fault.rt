@@ -3,8 +3,6 @@
 use std::alloc::{AllocError, AllocFailed};
 
 /// Why a line of a script asks for no step.
-///
-/// Source: own.
 #[derive(Clone, Copy, Debug, PartialEq, Eq)]
 pub enum LineFault {
     /// A growth of memory was refused.

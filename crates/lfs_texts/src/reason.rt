@@ -4,8 +4,6 @@ use crate::verb::Verb;
 use std::fmt;
 
 /// What is wrong in a line that says no step.
-///
-/// Source: own.
 #[derive(Clone, Copy, Debug, PartialEq, Eq)]
 pub enum Reason {
     /// A space stands in front of the first word.

@@ -17,8 +17,6 @@ use std::alloc::Global;
 use std::marker::Model;
 
 /// A script, its lines taken apart into words. Its meaning is its text.
-///
-/// Source: own.
 #[derive(Drop)]
 pub struct Script<'a> {
     /// The text.
@@ -93,8 +91,6 @@ pub(crate) fn fault_at(alloc: Global, number: usize, line: &[u8], fault: LineFau
 }
 
 /// A text as a script. Takes memory, for the words of its lines; that it was refused is told where the steps are asked for.
-///
-/// Source: own.
 pub fn script_of<'a>(alloc: Global, text: &'a [u8]) -> Script<'a>
     ensures { result ≡ text.now }
 {
@@ -114,9 +110,7 @@ pub fn script_of<'a>(alloc: Global, text: &'a [u8]) -> Script<'a>
     }
 }
 
-/// The line of a text that has this number, from 1 on, without what ends it; `None` where there is none. Takes no memory.
-///
-/// Source: own.
+/// The line of a text that has this number, from 1 on, without what ends it; `None` where there is none.
 pub fn line_at<'a>(text: &'a [u8], number: usize) -> Option<&'a [u8]>
     ensures { option_map (λ line. line.now) result ≡ line_of text.now number }
 {

@@ -4,8 +4,6 @@ use crate::flaw::Flaw;
 use crate::line_fault::LineFault;
 
 /// The first line of a script that asks for no step, and why.
-///
-/// Source: own.
 #[derive(Clone, Copy, Debug, PartialEq, Eq)]
 pub struct ScriptFault {
     /// The line's number, from 1 on.

@@ -3,8 +3,6 @@
 use lfs_history::{Move, Source};
 
 /// A line of a script that asks for a step.
-///
-/// Source: own.
 #[derive(Drop)]
 pub struct ScriptLine<'a> {
     /// The line's number, from 1 on.

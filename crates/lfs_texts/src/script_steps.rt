@@ -57,8 +57,6 @@ fn lines_said<'a>(
 /// images of the past are kept. A fault at the first line that says no step, with what is wrong in it and at which column: `BadHex`
 /// where only the digits of an attribute's kind or value spell nothing, `BadLine` otherwise; `Memory` says only that a growth was
 /// refused.
-///
-/// Source: own.
 pub fn script_lines<'a>(
     alloc: Global,
     script: &'a Script<'_>,

@@ -6,8 +6,6 @@ ghost use Rattle.lfs_texts.specs.Sizes.{HasUnit, IsSizeFault, SaysBlock, SaysBlo
 use std::fmt;
 
 /// Why a text says no number of bytes.
-///
-/// Source: own.
 pub const NO_BYTES: &str =
     "it is no number of bytes: decimal, hexadecimal behind 0x, or decimal with k or M behind it";
 
@@ -18,8 +16,6 @@ const LEAST_COUNT: u64 = 2;
 const MOST_COUNT: u64 = 65_536;
 
 /// Why the text of an image's size says no number of blocks.
-///
-/// Source: own.
 #[derive(Clone, Copy)]
 pub enum SizeFault {
     /// It says no number of bytes.
@@ -57,10 +53,8 @@ impl fmt::Display for SizeFault {
 }
 
 /// How many blocks an image has whose size a text says, in bytes: a decimal number, a hexadecimal one behind `0x`, or a
-/// decimal one with `k` or `M` behind it, for 1,024 and 1,048,576. The caller owes a block size, in bytes. A fault where the
-/// text says no number, or none that is 2 to 65,536 such blocks. Takes no memory.
-///
-/// Source: own.
+/// decimal one with `k` or `M` behind it, for 1,024 and 1,048,576. A fault where the text says no number, or none that is 2
+/// to 65,536 such blocks.
 pub fn blocks_said(text: &str, block: u32) -> Result<u32, SizeFault>
     requires { 0 < block }
     ensures blocks { IfOk result (λ count. SaysBlocks text.now block count) }
@@ -81,9 +75,7 @@ pub fn blocks_said(text: &str, block: u32) -> Result<u32, SizeFault>
 }
 
 /// How many bytes a text says: a decimal number, a hexadecimal one behind `0x`, or a decimal one with `k` or `M` behind it, for 1,024 and
-/// 1,048,576. `None` where it says no number, or a greater one than `u64` holds. Takes no memory.
-///
-/// Source: own.
+/// 1,048,576. `None` where it says no number, or a greater one than `u64` holds.
 pub fn bytes_said(text: &str) -> Option<u64>
     ensures bytes { IfSome result (λ bytes. SaysBytes text.now bytes) }
     ensures none { IsNone result → SaysNoBytes text.now }
@@ -112,9 +104,7 @@ fn split_unit(text: &str) -> (&str, u64)
 }
 
 /// The size of a block that a text says, in bytes, where `auto` stands for this one. `None` where it is none that blocks have, which
-/// is 256 to 65,536. Takes no memory.
-///
-/// Source: own.
+/// is 256 to 65,536.
 pub fn block_said(text: &str, stated: u32) -> Option<u32>
     ensures block { IfSome result (λ size. SaysBlock text.now stated size) }
     ensures none { IsNone result → SaysNoBlock text.now stated }

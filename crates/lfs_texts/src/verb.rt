@@ -4,8 +4,6 @@ ghost use Rattle.std.specs.Prelude.{◌≡◌, bytes_eq, codes};
 ghost use Rattle.lfs_texts.specs.Verbs.{least_of, most_of, verb_of};
 
 /// The first word of a line that says a step.
-///
-/// Source: own.
 #[derive(Clone, Copy, Debug, PartialEq, Eq)]
 pub enum Verb {
     /// `mkdir`.

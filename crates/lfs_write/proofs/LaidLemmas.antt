@@ -9,12 +9,12 @@ use Rattle.lfs_block.specs.Disk.{Disk, IsDisk}
 use Rattle.lfs_block.specs.Geometry.{IsBlockSize}
 use Rattle.lfs_meta.proofs.HeldPartLemmas.{block_bytes}
 use Rattle.lfs_file.specs.Capacity.{least_blocks}
-use Rattle.lfs_file.specs.Laws.{LaidAreAsMany, LaidAreBytes, LaidAreWhole}
+use Rattle.lfs_file.specs.Laws.{LaidAreAsMany, LaidAreBytes, LaidAreComplete}
 use Rattle.lfs_file.specs.Laying.{laid}
 use Rattle.lfs_write.specs.Laid.{AreLaid}
 use Rattle.lfs_command.specs.PartWritten.{change_at, changes_at}
 use Rattle.lfs_law.specs.WrittenLinks.{CanBeMade, block_after}
-use Rattle.lfs_law.proofs.ChangesAt.{change_whole, changes_all, changes_numbers, changes_rising, rising_head, rising_tail}
+use Rattle.lfs_law.proofs.ChangesAt.{change_complete, changes_all, changes_numbers, changes_rising, rising_head, rising_tail}
 
 here_by : (d : Disk) (b : ℕ) (new : List ℕ) (cs : List Change) → block_after d (change_at d b new ∷ cs) b ≡ new
 here_by d b new cs = let same : (b == b) ≡ true = grind (arith, nat_tests) in rw same refl
@@ -44,17 +44,17 @@ after_changes d (b ∷ blocks) (new ∷ contents) many rising =
 differ : (blocks : List ℕ) → AllPairs ◌<◌ blocks → AllPairs ◌≢◌ blocks
 differ blocks rising = λ i j d less within same. let before = rising i j d less within in absurd (omega (arith, before, same))
 
-pub are_laid : (d : Disk) (bytes blocks : List ℕ) → LaidAreAsMany → LaidAreWhole → LaidAreBytes → IsDisk d → IsBlockSize d.size
+pub are_laid : (d : Disk) (bytes blocks : List ℕ) → LaidAreAsMany → LaidAreComplete → LaidAreBytes → IsDisk d → IsBlockSize d.size
     → IsBytes bytes
     → AllPairs ◌<◌ blocks → All (λ b. b < d.count) blocks → length blocks ≡ least_blocks d.size (length bytes)
     → AreLaid d bytes blocks (changes_at d blocks (laid d.size bytes blocks))
-are_laid d bytes blocks many whole are disk size is rising below enough = record {
+are_laid d bytes blocks many complete are disk size is rising below enough = record {
   rising = changes_rising d blocks contents rising;
   made =
       changes_all (CanBeMade d) d blocks contents (λ b. b < d.count) (λ new. (length new ≡ d.size) × IsBytes new)
-      (λ b new within fits. let w = change_whole d b new disk within fits.0 fits.1 (block_bytes d b disk) in
-      record { stands = w.stands; whole = w.whole })
-      below (λ k e within. (whole d.size bytes blocks size k e within, are d.size bytes blocks is k e within));
+      (λ b new within fits. let w = change_complete d b new disk within fits.0 fits.1 (block_bytes d b disk) in
+      record { stands = w.stands; complete = w.complete })
+      below (λ k e within. (complete d.size bytes blocks size k e within, are d.size bytes blocks is k e within));
   numbers = changes_numbers d blocks contents as_many;
   lays = record { count = enough; apart = differ blocks rising; same = after_changes d blocks contents as_many rising };
 }

@@ -12,7 +12,7 @@ use Rattle.lfs_fs.specs.Thread.{Link}
 use Rattle.lfs_fs.specs.Uses.{times, pair_uses}
 use Rattle.lfs_fs.proofs.ContainsLemmas.{contains_first}
 use Rattle.lfs_fs.proofs.CountLemmas.{element_le}
-use Rattle.lfs_commit.specs.Difference.{Forced}
+use Rattle.lfs_pair.specs.Difference.{Forced}
 use Rattle.lfs_command.specs.PairChanged.{is_cut_by}
 use Rattle.lfs_law.specs.PairWritten.{CanBeAdded}
 use Rattle.lfs_law.specs.WrittenLinks.{changed_blocks, block_after, links_blocks, set_blocks, set_uses, link_part, MakesLink, CanBeWritten}
@@ -150,12 +150,12 @@ module _ (d : Disk) (bytes : List ℕ) (attributes : Attributes) (is_new : Pair 
     | inr later ↦ two l later set known
   ]
 
-  pub changed_whole : (forced : Forced) (cs mid new : List Change) (all front behind : List Link) → all ≡ front ++ behind
+  pub changed_complete : (forced : Forced) (cs mid new : List Change) (all front behind : List Link) → all ≡ front ++ behind
       → CanBeAdded d bytes attributes is_new cs all
       → AreWritten d bytes attributes is_new cs front mid
       → AreWritten d bytes attributes is_new mid behind new → ChangesLinks d is_new forced front mid → ChangesLinks d is_new forced behind new
       → ChangesLinks d is_new forced all new
-  changed_whole forced cs mid new all front behind is can first later one two =
+  changed_complete forced cs mid new all front behind is can first later one two =
       subst (λ (ls : List Link). ChangesLinks d is_new forced ls new) (sym is)
       (both_changed forced cs mid new front behind (subst (CanBeAdded d bytes attributes is_new cs) is can) first later one two)
 
@@ -208,10 +208,10 @@ module _ (d : Disk) (bytes : List ℕ) (attributes : Attributes) (is_new : Pair 
   can_later cs mid all front behind is can written = can_behind cs mid front behind
       (subst (CanBeAdded d bytes attributes is_new cs) is can) written
 
-  pub written_whole : (cs mid new : List Change) (all front behind : List Link) → all ≡ front ++ behind
+  pub written_complete : (cs mid new : List Change) (all front behind : List Link) → all ≡ front ++ behind
       → CanBeAdded d bytes attributes is_new cs all
       → AreWritten d bytes attributes is_new cs front mid
       → AreWritten d bytes attributes is_new mid behind new → AreWritten d bytes attributes is_new cs all new
-  written_whole cs mid new all front behind is can first later =
+  written_complete cs mid new all front behind is can first later =
       subst (λ (ls : List Link). AreWritten d bytes attributes is_new cs ls new) (sym is)
       (both_written cs mid new front behind (subst (CanBeAdded d bytes attributes is_new cs) is can) first later)

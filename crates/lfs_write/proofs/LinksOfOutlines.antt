@@ -25,21 +25,21 @@ directory_next e more i f to_next below is soft =
     ∙ ap (λ (t : Tail). links_of e.first e.more t ++ links (f ∷ drop (i + 1) more)) (sym soft)
 
 -- a front of what is left comes behind what is there
-pub moved : (xs front later all whole new : List Link) → new ≡ xs ++ front → all ≡ front ++ later → xs ++ all ≡ whole
-    → new ++ later ≡ whole
-moved xs front later all whole new added is before =
+pub moved : (xs front later all complete new : List Link) → new ≡ xs ++ front → all ≡ front ++ later → xs ++ all ≡ complete
+    → new ++ later ≡ complete
+moved xs front later all complete new added is before =
     ap (λ (l : List Link). l ++ later) added ∙ append_assoc xs front later ∙ ap (λ (l : List Link). xs ++ l) (sym is) ∙ before
 
-pub one_moved : (xs : List Link) (x : Link) (later all whole new : List Link) → new ≡ xs ++ (x ∷ []) → all ≡ (x ∷ []) ++ later
-    → xs ++ all ≡ whole
-    → new ++ later ≡ whole
-one_moved xs x later all whole new added is before = moved xs (x ∷ []) later all whole new added is before
+pub one_moved : (xs : List Link) (x : Link) (later all complete new : List Link) → new ≡ xs ++ (x ∷ []) → all ≡ (x ∷ []) ++ later
+    → xs ++ all ≡ complete
+    → new ++ later ≡ complete
+one_moved xs x later all complete new added is before = moved xs (x ∷ []) later all complete new added is before
 
 -- the last part of a directory
-pub last_added : (xs : List Link) (p : Part) (seen more : List Part) (i : ℕ) (tail : Tail) (whole new : List Link) → seen ≡ more
+pub last_added : (xs : List Link) (p : Part) (seen more : List Part) (i : ℕ) (tail : Tail) (complete new : List Link) → seen ≡ more
     → length seen ≤ i
-    → new ≡ xs ++ (link_to p tail ∷ []) → xs ++ links_of p (drop i more) tail ≡ whole → new ≡ whole
-last_added xs p seen more i tail whole new same past added before =
+    → new ≡ xs ++ (link_to p tail ∷ []) → xs ++ links_of p (drop i more) tail ≡ complete → new ≡ complete
+last_added xs p seen more i tail complete new same past added before =
     let none : drop i more ≡ [] = ap (drop i) (sym same) ∙ drop_all i seen past in
     added ∙ sym (ap (λ (ps : List Part). xs ++ links_of p ps tail) none) ∙ before
 

@@ -14,18 +14,18 @@ use Rattle.lfs_meta.specs.Body.{Pair}
 use Rattle.lfs_meta.specs.Entry.{StoredEntry}
 use Rattle.lfs_meta.specs.LiveBlock.{stored_part_of}
 use Rattle.lfs_meta.specs.Part.{StoredPart}
-use Rattle.lfs_commit.specs.Spelling.{part_tags}
-use Rattle.lfs_commit.specs.Writing.{IsFirstBlock, log_written, part_in, stored_part}
+use Rattle.lfs_pair.specs.Spelling.{part_tags}
+use Rattle.lfs_pair.specs.Writing.{IsFirstBlock, log_written, part_in, stored_part}
 use Rattle.lfs_meta.proofs.HeldPartLemmas.{block_bytes}
 use Rattle.lfs_fs.specs.Thread.{Link}
 use Rattle.lfs_fs.specs.Uses.{times}
 use Rattle.lfs_law.specs.PairWritten.{AddsChange, IsLinkStored, IsPairsBlock}
-use Rattle.lfs_commit.specs.Difference.{Forced}
+use Rattle.lfs_pair.specs.Difference.{Forced}
 use Rattle.lfs_command.specs.PairChanged.{beside, pair_number}
 use Rattle.lfs_command.specs.PartWritten.{Found, change_at, with_change}
 use Rattle.lfs_law.specs.WrittenLinks.{changed_blocks, block_after, number_in, part_after, link_part, CanBeMade, IsPairWritten, FillsFirst, IsFreeFor, AddsPart, AddsLink}
 use Rattle.lfs_law.proofs.BlockLemmas.{beside_is_one, pair_number_is_one}
-use Rattle.lfs_law.proofs.ChangesAt.{change_whole, overlaid_none, with_all, with_rising}
+use Rattle.lfs_law.proofs.ChangesAt.{change_complete, overlaid_none, with_all, with_rising}
 use Rattle.lfs_law.proofs.LinksAdded.{times_cons}
 use Rattle.lfs_law.proofs.OutlinesWritten.{none_named}
 
@@ -91,8 +91,8 @@ change_added d c old rising made this none =
 
 pub change_can : (d : Disk) (n : ℕ) (new : List ℕ) → IsDisk d → n < d.count → length new ≡ d.size → IsBytes new
     → CanBeMade d (change_at d n new)
-change_can d n new disk below len bytes = let fits = change_whole d n new disk below len bytes (block_bytes d n disk) in
-    record { stands = fits.stands; whole = fits.whole }
+change_can d n new disk below len bytes = let fits = change_complete d n new disk below len bytes (block_bytes d n disk) in
+    record { stands = fits.stands; complete = fits.complete }
 
 -- ---- a pair that is rewritten
 

@@ -11,13 +11,10 @@ ghost use Rattle.lfs_command.specs.Supplies.{Supplies};
 use crate::writing::changes_of;
 use lfs_block::{Blocks, Record};
 use lfs_command::{Command, Named, most_inline};
-use lfs_file::{laid_blocks_are_whole, lay};
+use lfs_file::{laid_blocks_are_complete, lay};
 use std::alloc::{AllocError, Global};
 
-/// The changes that lay a file of these bytes in these blocks. The caller owes blocks of the image that rise strictly, as many as the
-/// bytes take, and fewer than 2^32.
-///
-/// Source: own.
+/// The changes that lay a file of these bytes in these blocks.
 pub fn laid<B: Blocks>(
     alloc: Global,
     image: &B,
@@ -30,17 +27,14 @@ pub fn laid<B: Blocks>(
     requires few { length blocks.now < 2 ^ 32 }
     ensures { IfOk result (λ changes. AreLaid (B.disk image.now) bytes.now blocks.now changes.items) }
 {
-    laid_blocks_are_whole();
+    laid_blocks_are_complete();
     let size = image.size();
     let contents = lay(alloc, bytes, blocks, size).ok_or(AllocError)?;
     let changes = changes_of(alloc, image, blocks, contents)?;
     Ok(changes)
 }
 
-/// The changes that lay what a command puts into these blocks: none where it puts no contents there. The caller owes what `laid` asks,
-/// and as many blocks as the command's contents take.
-///
-/// Source: own.
+/// The changes that lay what a command puts into these blocks: none where it puts no contents there.
 pub fn laid_for<B: Blocks>(
     alloc: Global,
     image: &B,

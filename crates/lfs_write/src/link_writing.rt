@@ -3,9 +3,9 @@
 ghost use Rattle.std.specs.Prelude.{◌≡◌, ◌<◌, [], ◌∷◌, false, true, replicate, length, IfOk, OnOk};
 ghost use Rattle.std.specs.List.{AllByRecursion};
 ghost use Rattle.lfs_block.specs.Change.{IsRising};
-ghost use Rattle.lfs_commit.specs.Appending.{IsChanged};
-ghost use Rattle.lfs_commit.specs.DifferenceSeen.{forced_seen};
-ghost use Rattle.lfs_commit.specs.Writing.{IsRewritten, stored_part};
+ghost use Rattle.lfs_pair.specs.Appending.{IsChanged};
+ghost use Rattle.lfs_pair.specs.DifferenceSeen.{forced_seen};
+ghost use Rattle.lfs_pair.specs.Writing.{IsRewritten, stored_part};
 ghost use Rattle.lfs_fs.specs.Sound.{AreAttributes};
 ghost use Rattle.lfs_fs.specs.Thread.{links};
 ghost use Rattle.lfs_fs.specs.Uses.{times};
@@ -20,13 +20,12 @@ use crate::linking::outline_links;
 use crate::storing::stored_entries;
 use crate::writing::{add, change_of};
 use lfs_block::{Blocks, Record, put_blocks_stand};
-use lfs_commit::{Forced, change_pair, first_block, rewrite};
 use lfs_fs::{Outline, OutlinePart};
 use lfs_meta::{Part, Tail};
+use lfs_pair::{Forced, change_pair, first_block, rewrite};
 use std::alloc::{AllocError, Global};
 
-/// Puts the change of a block of an image among others, which rise by number. The caller owes that there is such a block, as many
-/// bytes as it has, and that no other change is of it.
+/// Puts the change of a block of an image among others, which rise by number.
 fn add_change<B: Blocks>(
     alloc: Global,
     image: &B,
@@ -47,7 +46,7 @@ fn add_change<B: Blocks>(
     Ok(())
 }
 
-/// The block of a pair that isn't live, rewritten with a part, and its number. The caller owes what `FitsPair` says.
+/// The block of a pair that isn't live, rewritten with a part, and its number.
 fn rewritten<B: Blocks>(alloc: Global, image: &B, part: &Part) -> Result<(u32, Vec<u8>), AllocError>
     requires { FitsPair (B.disk image.now) part.now }
     ensures { IfOk result (λ new. IsRewritten (B.disk image.now) part.now.0 part.now.1 new.0 new.1.items) }
@@ -62,8 +61,7 @@ fn rewritten<B: Blocks>(alloc: Global, image: &B, part: &Part) -> Result<(u32, V
     )
 }
 
-/// The block of a pair that a commit is appended to, or else that is rewritten, so that the pair holds a part, and its number. The caller
-/// owes what `FitsPair` says.
+/// The block of a pair that a commit is appended to, or else that is rewritten, so that the pair holds a part, and its number.
 fn changed<B: Blocks>(
     alloc: Global,
     image: &B,
@@ -85,7 +83,7 @@ fn changed<B: Blocks>(
 }
 
 /// The block that carries a pair to a part, and its number: where the part was cut, the one that isn't live, rewritten; else the live one
-/// with a commit appended, where there is room for it, or the other one rewritten. The caller owes what `FitsPair` says.
+/// with a commit appended, where there is room for it, or the other one rewritten.
 fn pair_block<B: Blocks>(
     alloc: Global,
     image: &B,
@@ -103,8 +101,7 @@ fn pair_block<B: Blocks>(
     }
 }
 
-/// Puts the change that makes a pair hold a part among others: of one of its blocks. The caller owes what `FitsPair` says, and that no
-/// other change is of the pair's blocks.
+/// Puts the change that makes a pair hold a part among others: of one of its blocks.
 fn change_part<B: Blocks>(
     alloc: Global,
     image: &B,
@@ -127,7 +124,7 @@ fn change_part<B: Blocks>(
 }
 
 /// Puts the changes that make a new pair hold a part among others: of both its blocks, of which the first one has the part and the second
-/// one is erased. The part's delta is zero then. The caller owes what `FitsPair` says, and that no other change is of the pair's blocks.
+/// one is erased. The part's delta is zero then.
 fn fill_pair<B: Blocks>(
     alloc: Global,
     image: &B,
@@ -150,7 +147,7 @@ fn fill_pair<B: Blocks>(
     Ok(())
 }
 
-/// A link as its part is stored. The caller owes attributes of the root that rise strictly by kind.
+/// A link as its part is stored.
 fn stored_link(
     alloc: Global,
     outline: &Outline,
@@ -187,8 +184,7 @@ fn is_cut(used: &[bool], tail: Tail) -> bool
 }
 
 /// Puts the changes that make a part's pair hold it among others: of one block of a pair that the table marks, of both blocks of
-/// another one. The caller owes attributes of the root that rise strictly by kind, a link that can be written, that a new pair has no
-/// share of the global state, and that no other change is of the pair's blocks.
+/// another one.
 fn write_part<B: Blocks>(
     alloc: Global,
     image: &B,
@@ -218,8 +214,7 @@ fn write_part<B: Blocks>(
     Ok(())
 }
 
-/// Writes a link, where its part is set; else it costs a look at that mark. The caller owes attributes of the root that rise strictly by
-/// kind, and what `CanBeAdded` says.
+/// Writes a link, where its part is set; else it costs a look at that mark.
 fn write_link<B: Blocks>(
     alloc: Global,
     image: &B,
@@ -244,13 +239,10 @@ fn write_link<B: Blocks>(
     Ok(())
 }
 
-/// The changes that write the links of an outline whose parts are set, beside those in `base`: a part goes on with a hard tail to the
-/// next one of its directory, the last of a directory with a soft one to the next directory, and the last of all with none. A pair whose
-/// first block the table marks takes one change: of its live block, to which a commit is appended, where there is room for it, and else of
-/// the other one, which is rewritten; a part that was cut is rewritten. Another pair takes two. The caller owes attributes of the root that rise strictly by kind, and
-/// what `CanBeAdded` says of the links.
-///
-/// Source: own.
+/// The changes that write the links of an outline whose parts are set, beside those in `base`: a part goes on with a hard tail to the next one of its directory, the
+/// last of a directory with a soft one to the next directory, and the last of all with none. A pair whose first block the table marks takes one change: of its live
+/// block, to which a commit is appended, where there is room for it, and else of the other one, which is rewritten; a part that was cut is rewritten. Another pair
+/// takes two.
 pub fn write_links<B: Blocks>(
     alloc: Global,
     image: &B,

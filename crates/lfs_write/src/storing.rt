@@ -73,7 +73,7 @@ fn add_stored(
     Ok(())
 }
 
-/// The superblock of an outline. The caller owes attributes of the root that rise strictly by kind.
+/// The superblock of an outline.
 #[tactic(auto, unfolding(lfs_law::specs::SuperblockBytes::volume_bytes))]
 fn superblock_of(alloc: Global, outline: &Outline) -> Result<Entry, AllocError>
     requires { AreAttributes outline.now.limits.attribute outline.now.attributes }
@@ -89,10 +89,7 @@ fn superblock_of(alloc: Global, outline: &Outline) -> Result<Entry, AllocError>
     )
 }
 
-/// The entries of a part of an outline, as they are stored: the superblock stands in front in the root's first part. The caller owes
-/// attributes of the root that rise strictly by kind.
-///
-/// Source: own.
+/// The entries of a part of an outline, as they are stored: the superblock stands in front in the root's first part.
 pub fn stored_entries(
     alloc: Global,
     outline: &Outline,

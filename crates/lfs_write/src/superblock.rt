@@ -6,12 +6,9 @@ ghost use Rattle.lfs_fs.specs.Superblock.{superblock_entry};
 ghost use Rattle.lfs_law.specs.SuperblockBytes.{superblock_bytes};
 
 use byteorder::{ByteOrder, LittleEndian};
-use lfs_fs::Limits;
+use lfs_fs::{Limits, VERSION};
 use lfs_meta::{Attribute, Body, Entry, Kind};
 use std::alloc::{AllocError, Global};
-
-/// Version 2.0 of the format.
-const VERSION: u32 = 0x0002_0000;
 
 /// The superblock's struct.
 fn superblock_bytes(size: u32, count: u32, limits: Limits) -> [u8; 24]
@@ -30,7 +27,7 @@ fn superblock_bytes(size: u32, count: u32, limits: Limits) -> [u8; 24]
     bytes
 }
 
-/// The superblock of an image of `count` blocks of `size` bytes. The caller owes attributes that rise strictly by kind.
+/// The superblock of an image of `count` blocks of `size` bytes.
 pub(crate) fn superblock(
     alloc: Global,
     size: u32,

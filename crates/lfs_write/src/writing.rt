@@ -8,7 +8,7 @@ ghost use Rattle.lfs_command.specs.PartWritten.{change_at, changes_at, with_chan
 use lfs_block::{Blocks, Record};
 use std::alloc::{AllocError, Global};
 
-/// The change of one block of an image. The caller owes that there is such a block.
+/// The change of one block of an image.
 pub(crate) fn change_of<B: Blocks>(
     alloc: Global,
     image: &B,
@@ -23,7 +23,7 @@ pub(crate) fn change_of<B: Blocks>(
     Ok(Record { number, old, new })
 }
 
-/// The changes of some blocks of an image. The caller owes that there are such blocks, and as many contents.
+/// The changes of some blocks of an image.
 pub(crate) fn changes_of<B: Blocks>(
     alloc: Global,
     image: &B,

@@ -1,3 +1,3 @@
 pub mod ReadLemmas
 pub mod WayLemmas
-pub mod MisuseLemmas
+pub mod UsageErrorLemmas

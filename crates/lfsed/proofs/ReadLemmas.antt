@@ -8,7 +8,7 @@ use Rattle.lfs_host.specs.Scene.{KeepsAll, Scene}
 use Rattle.lfs_grammar.specs.Grammar.{IsMatched, IsTaken, grammar}
 use Rattle.lfs_grammar.specs.Hyphens.{dashed, names_files_plainly}
 use Rattle.lfs_serve.specs.Stated.{IsStatedSize}
-use Rattle.lfs_words.specs.declared.auto_file.AutoFile.{AutoFile}
+use Rattle.lfs_arguments.specs.declared.auto_file.AutoFile.{AutoFile}
 use Rattle.lfsed.specs.Words.{EndsNamed, EndsWords, Looks}
 
 -- words that are refused with an error other than want of memory aren't taken

@@ -8,26 +8,26 @@ use Rattle.lfs_host.specs.Scene.{Scene}
 use Rattle.lfs_serve.specs.Program.{EndsRequest}
 use Rattle.lfs_serve.specs.Requests.{FilesDenote, IsServedOn, RequestsLeadOn, Served}
 use Rattle.lfsed.specs.Way.{Asked, AskedGoes, IsAskedOn, IsTornIn, Run, RunsLeadOn, asked_named, asked_words}
-use Rattle.lfsed.specs.Words.{AreStated, EndsError, EndsExplained, EndsForMemory, EndsMisused, EndsNamed, EndsPrinting, EndsWords}
+use Rattle.lfsed.specs.Words.{AreStated, EndsError, EndsExplained, EndsForMemory, EndsUsedWrongly, EndsNamed, EndsPrinting, EndsWords}
 
 -- ---- what asks for nothing changes no file
 
 printing_stays : (old new : Scene) (status : ℕ) → EndsPrinting old new status → new.files ≡ old.files
 printing_stays old new status ends = ends.0.0
 
-misused_stays : (old new : Scene) (status : ℕ) → EndsMisused old new status → new.files ≡ old.files
-misused_stays old new status ends = ap (λ (s : Scene). s.files) ends.0
+used_wrongly_stays : (old new : Scene) (status : ℕ) → EndsUsedWrongly old new status → new.files ≡ old.files
+used_wrongly_stays old new status ends = ap (λ (s : Scene). s.files) ends.0
 
 memory_stays : (old new : Scene) (status : ℕ) → EndsForMemory old new status → new.files ≡ old.files
 memory_stays old new status ends = ends.0.0.0
 
 explained_stays : (old new : Scene) (status : ℕ) → EndsExplained old new status → new.files ≡ old.files
 explained_stays old new status (inl printed) = printing_stays old new status printed
-explained_stays old new status (inr (inl misused)) = misused_stays old new status misused
+explained_stays old new status (inr (inl used_wrongly)) = used_wrongly_stays old new status used_wrongly
 explained_stays old new status (inr (inr memory)) = memory_stays old new status memory
 
 error_stays : (kind : _) (old new : Scene) (status : ℕ) → EndsError kind old new status → new.files ≡ old.files
-error_stays kind old new status (inl misused) = misused_stays old new status misused
+error_stays kind old new status (inl used_wrongly) = used_wrongly_stays old new status used_wrongly
 error_stays kind old new status (inr (inl (help, printed))) = printing_stays old new status printed
 error_stays kind old new status (inr (inr memory)) = memory_stays old new status memory
 
@@ -93,9 +93,9 @@ goes_named law size name r old mid h denotes on named (inl explains) is =
 goes_named law size name r old mid h denotes on named (inr (inl (stated, looked, are, inl (request, asks, ends)))) is =
     goes_asked law size name r old mid h denotes on (record { request = request; looked = looked }) is
     (looked_stays named r.old looked stated are) ends
-goes_named law size name r old mid h denotes on named (inr (inl (stated, looked, are, inr (misuse, missaid, misused)))) is =
+goes_named law size name r old mid h denotes on named (inr (inl (stated, looked, are, inr (usage_error, missaid, used_wrongly)))) is =
     stays size name r old mid h denotes on
-    (misused_stays looked r.new r.status misused ∙ looked_stays named r.old looked stated are)
+    (used_wrongly_stays looked r.new r.status used_wrongly ∙ looked_stays named r.old looked stated are)
 goes_named law size name r old mid h denotes on named (inr (inr (inl memory))) is =
     stays size name r old mid h denotes on (memory_stays r.old r.new r.status memory)
 goes_named law size name r old mid h denotes on named (inr (inr (inr (flash, looks, (fault, finds, told))))) is =

@@ -10,12 +10,12 @@ use Rattle.lfs_request.specs.declared.fault.Fault.{Fault}
 use Rattle.lfs_request.specs.declared.fault.Fault.TheVariants.{CannotWrite, Refused}
 use Rattle.lfs_request.specs.Fault.{status_of}
 use Rattle.lfs_request.specs.declared.request.Request.{Request}
-use Rattle.lfs_words.specs.declared.auto_file.AutoFile.{AutoFile}
-use Rattle.lfs_words.specs.declared.auto_sizes.AutoSizes.{AutoSizes}
+use Rattle.lfs_arguments.specs.declared.auto_file.AutoFile.{AutoFile}
+use Rattle.lfs_arguments.specs.declared.auto_sizes.AutoSizes.{AutoSizes}
 use Rattle.lfs_grammar.specs.Grammar.{grammar}
 use Rattle.lfs_grammar.specs.Hyphens.{IsRead}
-use Rattle.lfs_words.specs.Words.{AsksFor, Explains, IsMissaid, LooksIn, SaysAutoImage, SaysAutoOther}
-use Rattle.lfs_words.specs.declared.misuse.Misuse.{Misuse}
+use Rattle.lfs_arguments.specs.Words.{AsksFor, Explains, IsMissaid, LooksIn, SaysAutoImage, SaysAutoOther}
+use Rattle.lfs_arguments.specs.declared.usage_error.UsageError.{UsageError}
 use Rattle.lfs_exchange.specs.Printing.{PrintsBeginning}
 use Rattle.lfs_find.specs.Finding.{EndsFinding}
 use Rattle.lfs_host.specs.Scene.{KeepsAll, KeepsInput, Scene}
@@ -44,8 +44,8 @@ abbrev pub EndsForMemory : Scene → Scene → ℕ → Type 0
 EndsForMemory old new status = KeepsAll old new × (status ≡ status_of (Some (Refused Memory)))
 
 -- the words are refused, with nothing changed, made or printed: what is wrong is told on standard error
-abbrev pub EndsMisused : Scene → Scene → ℕ → Type 0
-EndsMisused old new status = (new ≡ old) × (status ≡ usage)
+abbrev pub EndsUsedWrongly : Scene → Scene → ℕ → Type 0
+EndsUsedWrongly old new status = (new ≡ old) × (status ≡ usage)
 
 -- a text is printed, and nothing else is changed or made; or a beginning of it, where the host refuses the rest
 abbrev pub EndsPrinting : Scene → Scene → ℕ → Type 0
@@ -57,13 +57,13 @@ EndsPrinting old new status =
 
 -- faults are explained; or a word is none of them; or there is no memory for what is said
 abbrev pub EndsExplained : Scene → Scene → ℕ → Type 0
-EndsExplained old new status = EndsPrinting old new status ⊎ EndsMisused old new status ⊎ EndsForMemory old new status
+EndsExplained old new status = EndsPrinting old new status ⊎ EndsUsedWrongly old new status ⊎ EndsForMemory old new status
 
 -- how words end that the grammar takes in no way: they are refused, unless their kind of error says that they call for help, which is
 -- printed then; or there is no memory for what is said
 abbrev pub EndsError : ErrorKind → Scene → Scene → ℕ → Type 0
 EndsError kind old new status =
-    EndsMisused old new status ⊎ (CallsForHelp kind × EndsPrinting old new status) ⊎ EndsForMemory old new status
+    EndsUsedWrongly old new status ⊎ (CallsForHelp kind × EndsPrinting old new status) ⊎ EndsForMemory old new status
 
 -- a look at the file of which the words say that its block size stands for `auto`, which changes nothing: so it does, or any, where they say
 -- so of no file
@@ -90,7 +90,7 @@ EndsNamed named old new status =
     ((faults : Option (Bor (List (Bor Text)))) × Explains named faults × EndsExplained old new status)
     ⊎ ((stated : AutoSizes) × (looked : Scene) × AreStated named old looked stated
     × (((request : Request) × AsksFor named stated request × EndsRequest request looked new status)
-    ⊎ ((misuse : Misuse) × IsMissaid named stated misuse × EndsMisused looked new status)))
+    ⊎ ((usage_error : UsageError) × IsMissaid named stated usage_error × EndsUsedWrongly looked new status)))
     ⊎ EndsForMemory old new status
     ⊎ ((flash : Text) × LooksIn named flash × EndsFound flash old new status)
 

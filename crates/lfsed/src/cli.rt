@@ -9,13 +9,17 @@ ghost use Rattle.lfs_request.specs.Fault.{status_of};
 ghost use Rattle.lfs_request.specs.declared.fault.Fault.TheVariants.{Refused};
 ghost use Rattle.lfs_command.specs.declared.refusal.Refusal.TheVariants.{Memory as No_memory};
 ghost use Rattle.lfs_serve.specs.Stated.{IsStatedSize};
-ghost use Rattle.lfs_words.specs.declared.misuse.Misuse.TheVariants.{Memory};
-ghost use Rattle.lfsed.specs.Words.{EndsError, EndsExplained, EndsFound, EndsMisused, EndsNamed, EndsPrinting, EndsWords, AreStated, ended_with};
+ghost use Rattle.lfs_arguments.specs.declared.usage_error.UsageError.TheVariants.{Memory};
+ghost use Rattle.lfsed.specs.Words.{EndsError, EndsExplained, EndsFound, EndsUsedWrongly, EndsNamed, EndsPrinting, EndsWords, AreStated, ended_with};
 
-use crate::explanations::{explained, explanations};
 use crate::tips::retold;
+use crate::usage_line::UsageLine;
 use clap::error::ErrorKind;
 use clap::{ArgMatches, Error};
+use lfs_arguments::{
+    AutoFile, AutoSizes, UsageError, auto_image, auto_other, faults_asked, flash_asked,
+    request_said,
+};
 use lfs_command::Refusal;
 use lfs_exchange::{MORE, print, tell_of_image};
 use lfs_find::list_images;
@@ -24,9 +28,7 @@ use lfs_host::Host;
 use lfs_report::tell_digits;
 use lfs_request::Fault;
 use lfs_serve::{served, stated_size};
-use lfs_words::{
-    AutoFile, AutoSizes, Misuse, auto_image, auto_other, faults_asked, flash_asked, request_said,
-};
+use lfs_texts::{explained, explanations};
 use std::alloc::{AllocError, Global};
 use std::convert::AsStr;
 use std::fmt::Write;
@@ -39,8 +41,6 @@ const OUTPUT: &str = "standard output";
 
 /// Does what the words of a command line ask for, the program's name first among them, and answers the status that the
 /// program ends with. A fault is told on standard error.
-///
-/// Source: own.
 pub fn cli<H: Host, W: AsStr>(alloc: Global, host: &mut H, words: &[W]) -> u8
     ensures ended { EndsWords (map W.text words.now) (H.known host.old) (H.known host.new) result }
 {
@@ -98,7 +98,7 @@ fn carried<H: Host>(alloc: Global, host: &mut H, matches: &ArgMatches<'_>) -> Re
     let stated = stated_for(alloc, host, matches)?;
     match request_said(alloc, matches, stated) {
         Ok(request) => Ok(served(alloc, host, &request)),
-        Err(misuse) => misused(host, misuse),
+        Err(usage_error) => used_wrongly(host, usage_error),
     }
 }
 
@@ -113,22 +113,24 @@ fn find<H: Host>(alloc: Global, host: &mut H, flash: &str) -> u8
 }
 
 /// Tells why the words of a command say no request, or answers that memory was wanting.
-fn misused<H: Host>(host: &mut H, misuse: Misuse<'_>) -> Result<u8, Fault>
-    ensures memory { misuse.entry ≡ Memory → (H.known host.new ≡ H.known host.old) × (ended_with result ≡ status_of (Some (Refused No_memory))) }
-    ensures told { (misuse.entry ≡ Memory → ⊥) → EndsMisused (H.known host.old) (H.known host.new) (ended_with result) }
+fn used_wrongly<H: Host>(host: &mut H, usage_error: UsageError<'_>) -> Result<u8, Fault>
+    ensures memory { usage_error.entry ≡ Memory → (H.known host.new ≡ H.known host.old) × (ended_with result ≡ status_of (Some (Refused No_memory))) }
+    ensures told { (usage_error.entry ≡ Memory → ⊥) → EndsUsedWrongly (H.known host.old) (H.known host.new) (ended_with result) }
 {
-    if let Misuse::Memory = misuse {
+    if let UsageError::Memory = usage_error {
         return Err(Fault::Refused(Refusal::Memory));
     }
-    if let Misuse::Hex {
+    if let UsageError::Hex {
         command,
         reason,
         digits,
-    } = misuse
+    } = usage_error
     {
         return Ok(tell_digits(host, command, reason, digits));
     }
-    host.complain(format_args!("error: {misuse}{MORE}"));
+    host.complain(UsageLine {
+        text: format_args!("error: {usage_error}{MORE}"),
+    });
     Ok(USAGE)
 }
 
@@ -170,9 +172,11 @@ fn explain<H: Host>(alloc: Global, host: &mut H, faults: Option<&[&str]>) -> Res
         return printed(host, list(alloc)?.as_str());
     };
     if let Some(fault) = faults.iter().find(|fault| explained(fault).is_none()) {
-        host.complain(format_args!(
-            "error: invalid value '{fault}' for '[FAULT]...': no fault has this number or name{MORE}"
-        ));
+        host.complain(UsageLine {
+            text: format_args!(
+                "error: invalid value '{fault}' for '[FAULT]...': no fault has this number or name{MORE}"
+            ),
+        });
         return Ok(USAGE);
     }
     printed(host, pages(alloc, faults)?.as_str())
@@ -218,8 +222,10 @@ fn refused<H: Host>(alloc: Global, host: &mut H, error: Error) -> Result<u8, Fau
 {
     if error.use_stderr() {
         match retold(alloc, &error) {
-            Ok(text) => host.complain(text.as_str()),
-            Err(_) => host.complain(error),
+            Ok(text) => host.complain(UsageLine {
+                text: text.as_str(),
+            }),
+            Err(_) => host.complain(UsageLine { text: error }),
         }
         return Ok(USAGE);
     }

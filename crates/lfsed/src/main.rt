@@ -2,14 +2,17 @@
 #![tactic(auto)]
 
 mod cli;
-mod explanations;
+mod json_word;
 mod tips;
+mod usage_line;
 mod way;
 
 use crate::cli::{USAGE, cli as run_words};
+use crate::json_word::told_form;
 use lfs_command::Refusal;
 use lfs_exchange::tell;
 use lfs_host::Host;
+use lfs_json::Form;
 use lfs_request::Fault;
 use lfs_system::Terminal;
 use std::io::ErrorKind;
@@ -22,17 +25,22 @@ fn main(rt: HostRuntime) -> ExitCode {
 
 /// Hands the program's arguments on, and answers the status to end with.
 fn status(rt: &HostRuntime) -> u8 {
-    let mut terminal = Terminal::new(rt);
     match words(rt) {
-        Ok(words) => run_words(rt.alloc(), &mut terminal, words.as_slice()),
-        Err(error) if error.kind() == ErrorKind::OutOfMemory => {
-            tell(&mut terminal, Fault::Refused(Refusal::Memory))
+        Ok(mut words) => {
+            let form = told_form(&mut words);
+            run_words(rt.alloc(), &mut Terminal::new(rt, form), words.as_slice())
         }
-        Err(_) => {
-            terminal.complain("lfsed: an argument is not UTF-8\n");
-            USAGE
-        }
+        Err(error) => without_words(&mut Terminal::new(rt, Form::Text), error),
     }
+}
+
+/// Tells why the arguments can't be had, and answers the status.
+fn without_words(terminal: &mut Terminal<'_>, error: io::Error) -> u8 {
+    if error.kind() == ErrorKind::OutOfMemory {
+        return tell(terminal, Fault::Refused(Refusal::Memory));
+    }
+    terminal.complain("lfsed: an argument is not UTF-8\n");
+    USAGE
 }
 
 /// The program's arguments.

@@ -12,8 +12,6 @@ const CONTENTS: &str =
 
 /// The text of an error, without tips that lead to another command's option or put `--` before a word: no option is the path of
 /// anything. Where a word stands behind the path of `put`, it says where contents come from. Takes memory.
-///
-/// Source: own.
 pub fn retold(alloc: Global, error: &Error) -> Result<String, AllocError> {
     let text = error.to_string(alloc)?;
     let text = text.as_str();

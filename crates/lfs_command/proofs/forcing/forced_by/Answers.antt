@@ -1,8 +1,8 @@
 use Rattle.std.proofs.Common.{Bor, List, ap, map, sym, ◌∙◌}
 use Rattle.lfs_meta.specs.Name.{Name}
-use Rattle.lfs_commit.specs.Difference.{Struct}
+use Rattle.lfs_pair.specs.Difference.{Struct}
 use Rattle.lfs_command.specs.AskedFor.{OnNames, named_command}
-use Rattle.lfs_command.specs.Home.{last_name}
+use Rattle.lfs_command.specs.Parent.{last_name}
 use Rattle.lfs_command.specs.PairChanged.{forced_by}
 use Rattle.lfs_command.proofs.forcing.forced_by.Goals as goal
 

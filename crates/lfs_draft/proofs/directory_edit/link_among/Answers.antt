@@ -8,8 +8,8 @@ use Rattle.lfs_draft.proofs.directory_edit.link_among.Goals as goal
 
 pub returns-clause-linked : goal.returns-clause-linked
 returns-clause-linked c p ps are =
-    linked_by c.args.entry p ps c.args.parts.now.items c.home_among-at.result c.index_mut.result.now c.place_in.new.part are
-    (c.home_among-at.ensures
+    linked_by c.args.entry p ps c.args.parts.now.items c.parent_among-at.result c.index_mut.result.now c.place_in.new.part are
+    (c.parent_among-at.ensures
     ∙ ap (λ (n : Name). first_or_last (has_greater n) c.deref.result.now)
     (c.deref-2.ensures.value ∙ ap (λ (e : Entry). e.name) c.entry.view_is)
     ∙ ap (first_or_last (has_greater c.args.entry.name)) c.deref.ensures.value)

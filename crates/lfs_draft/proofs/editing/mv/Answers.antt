@@ -13,7 +13,7 @@ move_entry-requires-clause-once c = subst (λ (v : Volume). BeginOnce v.director
 
 pub move_entry-requires-clause-there : goal.move_entry-requires-clause-there
 move_entry-requires-clause-there c =
-    subst (λ (v : Volume). (e : Entry) × (entry_in v.directories c.home-source.result.pair c.home-source.result.name.now ≡ Some e))
+    subst (λ (v : Volume). (e : Entry) × (entry_in v.directories c.parent-source.result.pair c.parent-source.result.name.now ≡ Some e))
     (sym c.outline.view_is)
     (moved_there c.args.outline.now (map (λ (x : Bor Name). x.now) c.args.from.now) (map (λ (x : Bor Name). x.now) c.args.to.now)
-    (c.home-source.result.pair, c.home-source.result.name.now) c.requires c.home-source.ensures.home)
+    (c.parent-source.result.pair, c.parent-source.result.name.now) c.requires c.parent-source.ensures.parent)

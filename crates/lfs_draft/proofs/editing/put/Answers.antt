@@ -15,4 +15,4 @@ put_file-requires-clause-named c = subst (λ (v : Volume). NamedOnce v.directori
 pub put_file-requires-clause-name : goal.put_file-requires-clause-name
 put_file-requires-clause-name c =
     put_short c.args.outline.now (map (λ (x : Bor Name). x.now) c.args.path.now) c.args.bytes.now
-    (c.home-home.result.pair, c.home-home.result.name.now) c.requires c.home-home.ensures.home
+    (c.parent-parent.result.pair, c.parent-parent.result.name.now) c.requires c.parent-parent.ensures.parent

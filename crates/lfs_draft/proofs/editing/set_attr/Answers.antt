@@ -7,11 +7,11 @@ use Rattle.lfs_draft.proofs.editing.set_attr.Goals as goal
 
 pub change-requires-clause-one : goal.change-requires-clause-one
 change-requires-clause-one c = (subst (λ (v : Volume). BeginOnce v.directories) (sym c.outline.view_is) c.requires.begins)
-    c.home-home.result.pair
+    c.parent-parent.result.pair
 
 pub change-requires-clause-once : goal.change-requires-clause-once
 change-requires-clause-once c = (subst (λ (v : Volume). NamedOnce v.directories) (sym c.outline.view_is) c.requires.named)
-    c.home-home.result.name.now
+    c.parent-parent.result.name.now
 
 pub returns-in_err-set_attribute : goal.returns-in_err-set_attribute
 returns-in_err-set_attribute c = rw (err_from_is_err_and c.from_residual.result c.from_residual.ensures.1).1 tt

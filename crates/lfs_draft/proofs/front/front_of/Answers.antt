@@ -13,15 +13,15 @@ returns-in_default c =
 
 pub returns-in-Some : goal.returns-in-Some
 returns-in-Some c =
-    front_at c.args.outline.now (map (λ (n : Bor Name). n.now) c.args.path.now) c.in-Ok.home.pair c.in-Ok.home.name.now c.in-Some.at
-    c.in-Ok.ensures.home
-    (ap (position (begins_at c.in-Ok.home.pair)) (sym (c.deref.ensures.value ∙ ap (λ (v : Volume). v.directories) c.outline.view_is))
+    front_at c.args.outline.now (map (λ (n : Bor Name). n.now) c.args.path.now) c.in-Ok.parent.pair c.in-Ok.parent.name.now c.in-Some.at
+    c.in-Ok.ensures.parent
+    (ap (position (begins_at c.in-Ok.parent.pair)) (sym (c.deref.ensures.value ∙ ap (λ (v : Volume). v.directories) c.outline.view_is))
     ∙ sym c.directory_of.ensures ∙ c.in-Some.is)
     c.requires.once
 
 pub returns-in-None : goal.returns-in-None
 returns-in-None c =
-    front_nowhere c.args.outline.now (map (λ (n : Bor Name). n.now) c.args.path.now) c.in-Ok.home.pair c.in-Ok.home.name.now
-    c.in-Ok.ensures.home
-    (ap (position (begins_at c.in-Ok.home.pair)) (sym (c.deref.ensures.value ∙ ap (λ (v : Volume). v.directories) c.outline.view_is))
+    front_nowhere c.args.outline.now (map (λ (n : Bor Name). n.now) c.args.path.now) c.in-Ok.parent.pair c.in-Ok.parent.name.now
+    c.in-Ok.ensures.parent
+    (ap (position (begins_at c.in-Ok.parent.pair)) (sym (c.deref.ensures.value ∙ ap (λ (v : Volume). v.directories) c.outline.view_is))
     ∙ sym c.directory_of.ensures ∙ c.in-None.is)

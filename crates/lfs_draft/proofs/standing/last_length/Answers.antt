@@ -3,7 +3,7 @@ use Rattle.std.proofs.Common.{◌≡◌, Option, Some, None, length, map, refl, 
 use Rattle.std.specs.Option.{option_map, unwrap_or}
 use Rattle.lfs_meta.specs.Name.{Name}
 use Rattle.lfs_fs.specs.Path.{Path}
-use Rattle.lfs_command.specs.Home.{split_last}
+use Rattle.lfs_command.specs.Parent.{split_last}
 use Rattle.lfs_draft.proofs.standing.last_length.Goals as goal
 
 of_last : (s : Option (Path × Name)) → unwrap_or (option_map length (option_map (λ (x : Path × Name). x.1) s)) 0

@@ -13,6 +13,6 @@ unreachable-requires c = none-some c.requires.there.0 (c.in-None.ensures ∙ c.r
 pub returns : goal.returns
 returns c =
     IfOk-weaker c.renamed.result (λ (x : Entry). x ≡ renamed c.args.name.now c.in-Some.entry.now)
-    (λ (x : Entry). (e : Entry) → entry_in c.args.directories.now c.args.home.pair c.args.home.name.now ≡ Some e → x ≡ renamed c.args.name.now e)
+    (λ (x : Entry). (e : Entry) → entry_in c.args.directories.now c.args.parent.pair c.args.parent.name.now ≡ Some e → x ≡ renamed c.args.name.now e)
     (λ x is e there. is ∙ ap (renamed c.args.name.now) (same_Some c.in-Some.entry.now e (c.in-Some.ensures ∙ there)))
     c.renamed.ensures

@@ -7,10 +7,10 @@ use Rattle.lfs_draft.proofs.thread_changes.remove.Goals as goal
 
 pub drop_directory-requires : goal.drop_directory-requires
 drop_directory-requires c =
-    let n = c.args.home.name.now in
+    let n = c.args.parent.name.now in
     rw c.unlink.ensures (omega (
       arith,
-      begins_kept c.in-Some.pair c.args.home.pair (unlink_in n) c.args.directories.now.items
+      begins_kept c.in-Some.pair c.args.parent.pair (unlink_in n) c.args.directories.now.items
           (keeps_unlink n),
       c.requires.once c.in-Some.pair,
     ))

@@ -1,6 +1,6 @@
 use Rattle.std.proofs.Common.{◌≡◌, ap, ◌∙◌, arith}
 use Rattle.lfs_file.specs.Laying.{filled, share_of}
-use Rattle.lfs_file.proofs.LayingLemmas.{value_kept, laid-more, laid-whole, part-next, rest-next}
+use Rattle.lfs_file.proofs.LayingLemmas.{value_kept, laid-more, laid-complete, part-next, rest-next}
 use Rattle.lfs_file.proofs.laying.lay.Goals as goal
 
 pub loop-n-preserved : goal.loop-n-preserved
@@ -22,4 +22,4 @@ loop-n-preserved c =
     }
 
 pub returns : goal.returns
-returns c = laid-whole c.args.block_size c.loop-n.n c.args.bytes.now c.args.blocks.now _ c.loop-n.invariant.done (omega arith)
+returns c = laid-complete c.args.block_size c.loop-n.n c.args.bytes.now c.args.blocks.now _ c.loop-n.invariant.done (omega arith)

@@ -12,9 +12,9 @@ pub pointer_at-requires : goal.pointer_at-requires
 pointer_at-requires g c =
     let d = g.B.Blocks.disk c.args.blocks.now in
     let few : pointers c.args.n ≤ 33 = pointers_few c.args.n in
-    let whole : length (block_of d (slice_index c.args.chain.now c.args.n)) ≡ d.size =
+    let complete : length (block_of d (slice_index c.args.chain.now c.args.n)) ≡ d.size =
     length-block d (slice_index c.args.chain.now c.args.n) c.requires.disk c.requires.below in
-    omega (arith, few, whole, ap length c.block-block.ensures, c.requires.disk.geometry.size_fits.0)
+    omega (arith, few, complete, ap length c.block-block.ensures, c.requires.disk.geometry.size_fits.0)
 
 pub overflow_sub-n : goal.overflow_sub-n
 overflow_sub-n g c =

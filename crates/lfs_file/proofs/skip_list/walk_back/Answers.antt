@@ -11,7 +11,7 @@ pub returns-then-block-count-clause-refused : goal.returns-then-block-count-clau
 returns-then-block-count-clause-refused g c =
     walk-past (g.B.Blocks.disk c.args.blocks.now) c.args.head c.args.count c.loop.block (c.args.count - c.loop.counter)
     (c.args.count - (c.loop.counter + 1)) (reverse c.loop.chain.items)
-    (omega arith) c.loop.invariant.whole (omega arith)
+    (omega arith) c.loop.invariant.complete (omega arith)
 
 pushed_when : (ok : Bool) (old new : List ℕ) (last : ℕ) → new ≡ cond ok (old ++ last ∷ []) old → ok ≡ true → new ≡ old ++ last ∷ []
 pushed_when ok old new last is passed = is ∙ cond-true ok (old ++ last ∷ []) old passed
@@ -30,8 +30,8 @@ loop-preserved g c =
     let before : pointer (block_of d c.loop.block) 0 ≡ c.pointer_at-block.result =
     first_of _ _ _ c.pointer_at-block.ensures c.block.ensures in
     record {
-      whole = walk-more d c.loop.block (c.args.count - c.loop.counter) left c.pointer_at-block.result items c.push.new.self.items
-          (walk d c.args.head c.args.count) (omega arith) before pushed c.loop.invariant.whole;
+      complete = walk-more d c.loop.block (c.args.count - c.loop.counter) left c.pointer_at-block.result items c.push.new.self.items
+          (walk d c.args.head c.args.count) (omega arith) before pushed c.loop.invariant.complete;
       below = All-same (λ b. b < d.count) c.push.new.self.items (items ++ c.loop.block ∷ []) pushed
           (All-push (λ b. b < d.count) items c.loop.block c.loop.invariant.below (omega arith));
     }
@@ -39,5 +39,5 @@ loop-preserved g c =
 pub returns-clause-found : goal.returns-clause-found
 returns-clause-found g c =
     c.reverse.ensures.items
-    ∙ sym (c.loop.invariant.whole ∙ walk-none (g.B.Blocks.disk c.args.blocks.now) c.loop.block (c.args.count - c.loop.counter)
+    ∙ sym (c.loop.invariant.complete ∙ walk-none (g.B.Blocks.disk c.args.blocks.now) c.loop.block (c.args.count - c.loop.counter)
     (reverse c.loop.chain.items) (omega arith))

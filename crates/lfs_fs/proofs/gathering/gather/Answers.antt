@@ -42,8 +42,8 @@ returns-in_err-settled-clause-refused g c =
     let kept = c.in_ok-joined.ensures.kept in
     let root = root_taken (reading_of d) c.in_ok-root.root part c.in-Some.superblock c.read_root.new.used c.in_ok-root.ensures.read
     c.in-Some.ensures.taken in
-    let whole = root_with_rest (reading_of d) limits part c.in-Some.superblock c.read_thread.new.used c.in_ok-joined.joined root kept in
-    rw (p.1, p.2) (state_refuses d f part c.in-Some.superblock part.1.entries kept.rest whole c.in_ok-limits.ensures.judged.is.kind
+    let complete = root_with_rest (reading_of d) limits part c.in-Some.superblock c.read_thread.new.used c.in_ok-joined.joined root kept in
+    rw (p.1, p.2) (state_refuses d f part c.in-Some.superblock part.1.entries kept.rest complete c.in_ok-limits.ensures.judged.is.kind
     kept.is_thread (subst (StateCause f) kept.state c.in_err-settled.ensures.refused))
 
 pub returns-in_err-settled-clause-first : goal.returns-in_err-settled-clause-first

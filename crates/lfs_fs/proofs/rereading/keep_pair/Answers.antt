@@ -19,7 +19,7 @@ returns-in-Some-clause-kept g c =
     let h = c.requires.known in
     let link = known_link (reading_of d) c.args.limits h.0 c.args.known.now.changed.items c.args.known.now.parts.items c.in-Some.part h.1
     c.in-Some.ensures.there c.in-Some.ensures.left in
-    keeps_known c.held_parts_are_whole.ensures d c.args.limits h.1.bytes h.0 c.in-Some.part c.args.pair link c.requires.disk c.requires.first
+    keeps_known c.held_parts_are_complete.ensures d c.args.limits h.1.bytes h.0 c.in-Some.part c.args.pair link c.requires.disk c.requires.first
     c.requires.second c.requires.other c.in-Some.ensures.pair c.args.used.now c.take_over.new.used c.next_pair-next.result c.args.joined.now
     c.take_over.new.self c.in_ok-take_over.ensures (c.next_pair-next.ensures ∙ ap (λ (k : Link). next k.tail) c.part.view_is)
 

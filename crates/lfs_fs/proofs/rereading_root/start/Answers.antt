@@ -22,7 +22,7 @@ returns-clause-started g c =
     let link = known_link (reading_of d) c.args.limits c.args.attributes.items c.args.known.now.changed.items c.args.known.now.parts.items
     c.in-Some.part h c.in-Some.ensures.there c.in-Some.ensures.left in
     let within = pair_within (reading_of d) root c.args.used.now c.mark_all.new.used c.requires.len c.in_ok-mark_all.ensures.marked in
-    starts_known c.held_parts_are_whole.ensures d c.args.limits c.args.attributes.items c.in-Some.part h.bytes h.judged link c.requires.disk
+    starts_known c.held_parts_are_complete.ensures d c.args.limits c.args.attributes.items c.in-Some.part h.bytes h.judged link c.requires.disk
     c.in-Some.ensures.pair c.args.used.now c.mark_all.new.used c.take_over.new.used c.next_pair-next.result c.new-joined.result
     c.take_over.new.self c.requires.len c.requires.fresh c.in_ok-mark_all.ensures.marked (record {
       directories = c.new-joined.ensures.directories;

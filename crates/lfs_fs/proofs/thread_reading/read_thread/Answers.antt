@@ -85,7 +85,7 @@ thread-preserved g c =
       rest = h.rest ++ part ∷ [];
       gathers = gathers_more r c.args.limits h.superblock c.args.root h.rest c.thread.used c.thread.joined c.in-Some.pair part
           c.mark_all.new.used c.keep-in-Some.new.used c.keep-in-Some.new.self h.gathers c.in_ok-mark_all.ensures.marked
-          c.in_ok-part.ensures.pair c.in_ok-part.ensures.found c.in_ok-part.ensures.whole c.in_ok-keep-2.ensures.kept;
+          c.in_ok-part.ensures.pair c.in_ok-part.ensures.found c.in_ok-part.ensures.complete c.in_ok-keep-2.ensures.kept;
     } in
     rw next_is more
 
@@ -97,7 +97,7 @@ returns-in_err-keep-2-clause-refused g c =
     c.thread.invariant in
     rw (p.1, p.2) (part_refused d c.args.limits c.in_err-keep-2.field-0.0 h.superblock h.judged c.args.root h.rest c.thread.used
     c.thread.joined c.in-Some.pair h.gathers c.in_ok-part.part c.mark_all.new.used c.in_ok-mark_all.ensures.marked
-    c.in_ok-part.ensures.pair c.in_ok-part.ensures.found c.in_ok-part.ensures.whole c.in_err-keep-2.ensures.refused)
+    c.in_ok-part.ensures.pair c.in_ok-part.ensures.found c.in_ok-part.ensures.complete c.in_err-keep-2.ensures.refused)
 
 pub returns-clause-kept : goal.returns-clause-kept
 returns-clause-kept g c =

@@ -10,7 +10,7 @@ loop-block-init c =
     let n = c.args.n in
     let rest = unused_from c.args.lowest (drop c.args.lowest c.args.used.now) in
     record {
-      whole = subst (λ (bs : List ℕ). bs ++ take (n - length bs) rest ≡ take n (unused c.args.used.now)) (sym c.in_ok-found.ensures.items)
+      complete = subst (λ (bs : List ℕ). bs ++ take (n - length bs) rest ≡ take n (unused c.args.used.now)) (sym c.in_ok-found.ensures.items)
           (ap (λ (k : ℕ). take k rest) (omega arith) ∙ ap (take n) (unused_below c.args.used.now c.args.lowest c.requires.below));
       few = omega (arith, ap length c.in_ok-found.ensures.items);
     }
@@ -27,16 +27,16 @@ loop-block-preserved c =
       | then-not-used-block+in_ok-push w ↦
           let is : new ≡ old ++ i ∷ [] = ap (λ v. v.items) w.found-is ∙ w.in_ok-push.ensures.items in
           record {
-            whole = lowest_more_unused n i flags old new false c.loop-block-test.true w.if-not-used-block.true few is
-                c.loop-block.invariant.whole;
+            complete = lowest_more_unused n i flags old new false c.loop-block-test.true w.if-not-used-block.true few is
+                c.loop-block.invariant.complete;
             few = omega (arith, ap length is, length_push old i);
           }
       | else-not-used-block w ↦
           let is : old ≡ new = sym (ap (λ v. v.items) w.found-is) in
           let rest = unused_from (i + 1) (drop (i + 1) flags) in
           record {
-            whole = subst (λ (bs : List ℕ). bs ++ take (n - length bs) rest ≡ take n (unused flags)) is
-                (lowest_more_used n i flags old false c.loop-block-test.true w.if-not-used-block.false c.loop-block.invariant.whole);
+            complete = subst (λ (bs : List ℕ). bs ++ take (n - length bs) rest ≡ take n (unused flags)) is
+                (lowest_more_used n i flags old false c.loop-block-test.true w.if-not-used-block.false c.loop-block.invariant.complete);
             few = omega (arith, ap length is);
           }
     ]

@@ -3,8 +3,8 @@ use Rattle.lfs_history.proofs.GrowthLemmas.{journal_grows, kept_journal_grows}
 use Rattle.lfs_history.proofs.NeedsLemmas.{journal_grows_by_all, kept_journal_grows_by_all}
 use Rattle.lfs_history.proofs.laws.journals_grow_by_the_need.Goals as goal
 
-pub returns-clause-whole : goal.returns-clause-whole
-returns-clause-whole c =
+pub returns-clause-complete : goal.returns-clause-complete
+returns-clause-complete c =
     journal_grows c.need_is_exact.ensures.few c.written_volumes_are_held.ensures.clean c.both_sides_hold.ensures.links
 
 pub returns-clause-kept : goal.returns-clause-kept

@@ -43,9 +43,9 @@ pub returns : goal.returns
 returns c =
     let files = c.args.files.now in
     let folder = c.args.folder.now in
-    let whole : map deref c.loop-file.yielded ≡ keys files = search (rules, iter_end) in
+    let complete : map deref c.loop-file.yielded ≡ keys files = search (rules, iter_end) in
     let texts : map text c.loop-file.yielded ≡ names_of files =
-    sym (map-map (λ k. string_bytes k) deref c.loop-file.yielded) ∙ ap (λ (ks : List (String Global)). map (λ k. string_bytes k) ks) whole in
+    sym (map-map (λ k. string_bytes k) deref c.loop-file.yielded) ∙ ap (λ (ks : List (String Global)). map (λ k. string_bytes k) ks) complete in
     let names = c.loop-file.names in
     let there : List (List ℕ) = names_through folder (names_of files) in
     let has : (q : List ℕ) → contains_text names q ≡ list_any (bytes_eq q) there = λ q. c.loop-file.invariant.has q

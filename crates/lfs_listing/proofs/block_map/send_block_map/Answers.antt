@@ -8,8 +8,8 @@ use Rattle.lfs_listing.proofs.BufferLemmas.{under_way}
 use Rattle.lfs_listing.proofs.UnsentLemmas.{refused}
 use Rattle.lfs_listing.proofs.block_map.send_block_map.Goals as goal
 
-pub users_with_ends-requires : goal.users_with_ends-requires
-users_with_ends-requires g c =
+pub users_with_parts-requires : goal.users_with_parts-requires
+users_with_parts-requires g c =
     let is = c.requires.mounted.1 in
     subst IsSound (sym is.outline) (c.outlines_are_sound.ensures is.volume is.sound)
 
@@ -21,5 +21,5 @@ pub returns-clause-sent : goal.returns-clause-sent
 returns-clause-sent g c =
     let m = c.args.mounted.now in
     subst (λ (text : List ℕ). SendsListing (result_err c.send_runs.result) (g.S.Sink.sent c.args.out.now) (g.S.Sink.sent c.send_runs.new.out) text)
-    (map_text m.outline m.rows c.deref.result.now c.in_ok-users.ends (c.deref.ensures.value ∙ c.in_ok-users.ensures.users) c.in_ok-users.ensures.ends)
+    (map_text c.args.form m.outline m.rows c.deref.result.now c.in_ok-users.parts (c.deref.ensures.value ∙ c.in_ok-users.ensures.users) c.in_ok-users.ensures.parts)
     c.send_runs.ensures.sent

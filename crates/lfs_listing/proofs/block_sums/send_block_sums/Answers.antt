@@ -8,7 +8,6 @@ use Rattle.lfs_fs.specs.Row.{Row}
 use Rattle.lfs_fs.specs.Sound.{IsSound}
 use Rattle.lfs_listing.specs.BlockMap.{block_users}
 use Rattle.lfs_listing.specs.BlockSums.{block_sums, sum_line, taken}
-use Rattle.lfs_listing.specs.Listing.{shown_byte}
 use Rattle.lfs_listing.specs.Summing.{AreCounts, depth_sum, sum_lines}
 use Rattle.lfs_listing.specs.Unsent.{SendsListing}
 use Rattle.lfs_listing.proofs.BufferLemmas.{under_way}
@@ -64,12 +63,12 @@ returns-clause-sent g c =
     counts (c.in_ok-sums.ensures.len ∙ many) (λ i within.
     c.in_ok-sums.ensures.sums i (omega (arith, many, within))
     ∙ ap (λ (ds : List ℕ). depth_sum ds c.deref-3.result.now i) depths) in
-    let text : sum_lines (rows_listed c.rows.result) c.deref-4.result.now ++ sum_line shown_byte None c.untaken_of.result
-    ≡ block_sums shown_byte m.outline m.rows =
-    ap (λ (rs : List Row). sum_lines rs c.deref-4.result.now ++ sum_line shown_byte None c.untaken_of.result) c.rows.ensures
-    ∙ ap (λ (ns : List ℕ). sum_lines m.rows ns ++ sum_line shown_byte None c.untaken_of.result) (c.deref-4.ensures.value ∙ sums)
-    ∙ ap (λ (xs : List ℕ). xs ++ sum_line shown_byte None c.untaken_of.result) (lines_of_rows (λ (r : Row). taken m.outline m.rows r.path) m.rows)
-    ∙ ap (λ (n : ℕ). flat_map (λ (r : Row). sum_line shown_byte (Some r) (taken m.outline m.rows r.path)) m.rows ++ sum_line shown_byte None n)
+    let text : sum_lines c.args.form (rows_listed c.rows.result) c.deref-4.result.now ++ sum_line c.args.form None c.untaken_of.result
+    ≡ block_sums c.args.form m.outline m.rows =
+    ap (λ (rs : List Row). sum_lines c.args.form rs c.deref-4.result.now ++ sum_line c.args.form None c.untaken_of.result) c.rows.ensures
+    ∙ ap (λ (ns : List ℕ). sum_lines c.args.form m.rows ns ++ sum_line c.args.form None c.untaken_of.result) (c.deref-4.ensures.value ∙ sums)
+    ∙ ap (λ (xs : List ℕ). xs ++ sum_line c.args.form None c.untaken_of.result) (lines_of_rows c.args.form (λ (r : Row). taken m.outline m.rows r.path) m.rows)
+    ∙ ap (λ (n : ℕ). flat_map (λ (r : Row). sum_line c.args.form (Some r) (taken m.outline m.rows r.path)) m.rows ++ sum_line c.args.form None n)
     (c.untaken_of.ensures ∙ ap (count_by is_none) (c.deref-5.ensures.value ∙ c.in_ok-users.ensures.users)) in
     subst (λ (xs : List ℕ). SendsListing (result_err c.send_sums.result) (g.S.Sink.sent c.args.out.now) (g.S.Sink.sent c.send_sums.new.out) xs) text
     c.send_sums.ensures.sent

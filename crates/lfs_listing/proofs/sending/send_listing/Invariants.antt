@@ -8,7 +8,7 @@ use Rattle.lfs_listing.proofs.sending.send_listing.Given as goal
 abbrev pub invariant-loop-row : goal.invariant-loop-row
 invariant-loop-row g l = record {
   under_way : IsUnderWay (g.S.Sink.sent l.initial.out) (g.S.Sink.sent l.out) l.text.items
-      (listing_at (names l.fn.at) (rows_after (map (λ n. n.now) l.path.items) l.row-iterator)) (listing_at (names l.fn.at) (rows_listed l.fn.rows));
+      (listing_at l.fn.form (names l.fn.at) (rows_after (map (λ n. n.now) l.path.items) l.row-iterator)) (listing_at l.fn.form (names l.fn.at) (rows_listed l.fn.rows));
   works : g.S.Sink.failed l.out ≡ false;
   kept : g.S.Sink.kept l.out ≡ g.S.Sink.kept l.initial.out;
 }

@@ -3,7 +3,7 @@ use Rattle.std.proofs.Common.{◌≡◌, List, ap, sym, ◌∙◌, subst}
 use Rattle.std.specs.Prelude.{All}
 use Rattle.lfs_fs.specs.Gathering.{PairPart}
 use Rattle.lfs_lower.specs.Joining.{with_one}
-use Rattle.lfs_lower.proofs.JoinedWhole.{AreWhole, made_one, parts_whole}
+use Rattle.lfs_lower.proofs.JoinedComplete.{AreComplete, made_one, parts_complete}
 use Rattle.lfs_lower.proofs.joining.joined_parts.Goals as goal
 
 pub returns : goal.returns
@@ -15,5 +15,5 @@ returns g c =
     c.take_superblocks-last.ensures.last c.take_superblocks-last.ensures.stripped in
     record {
       is = one ∙ ap with_one c.in_ok-parts.ensures.parts;
-      whole = subst (All AreWhole) (sym one) (parts_whole ps c.in_ok-parts.ensures.whole);
+      complete = subst (All AreComplete) (sym one) (parts_complete ps c.in_ok-parts.ensures.complete);
     }

@@ -2,7 +2,7 @@
 use Rattle.std.proofs.Common.{◌≡◌, ap, sym, ◌∙◌, subst, List, ℕ}
 use Rattle.lfs_block.specs.Bytes.{IsBytes}
 use Rattle.lfs_block.specs.Disk.{Disk, put}
-use Rattle.lfs_commit.specs.Writing.{IsRewritten, stored_part}
+use Rattle.lfs_pair.specs.Writing.{IsRewritten, stored_part}
 use Rattle.lfs_meta.specs.Entry.{StoredEntry}
 use Rattle.lfs_fs.specs.Gathering.{PairPart}
 use Rattle.lfs_lower.specs.Joining.{IsPartPut}

@@ -4,8 +4,8 @@ use Rattle.lfs_lower.specs.Spelled.{is_root_block, lowered_block}
 use Rattle.lfs_lower.proofs.LoweredAlong.{block_lowered, lowered_len}
 use Rattle.lfs_lower.proofs.lowering.lower_block.Goals as goal
 
-pub write_block-requires-clause-whole : goal.write_block-requires-clause-whole
-write_block-requires-clause-whole c =
+pub write_block-requires-clause-complete : goal.write_block-requires-clause-complete
+write_block-requires-clause-complete c =
     let is : c.deref.result.now ≡ lowered_block (is_root_block c.args.number) (block_of c.args.image.now.disk c.args.number) =
     c.deref.ensures.value ∙ c.in_ok-block.ensures ∙ ap (lowered_block (is_root_block c.args.number)) c.block.ensures in
     lowered_len c.lowered_blocks_are_read.ensures.blocks c.args.image.now.disk c.args.number c.deref.result.now

@@ -1,6 +1,6 @@
 -- A pair that isn't read holds no part, unless memory was wanting.
 use Rattle.lfs_block.specs.Disk.{Disk}
-use Rattle.lfs_commit.proofs.ChangeLemmas.{has-cause}
+use Rattle.lfs_pair.proofs.ChangeLemmas.{has-cause}
 use Rattle.lfs_lower.proofs.superblocks.part_at.Goals as goal
 
 pub returns-in_default : goal.returns-in_default
@@ -12,7 +12,7 @@ returns-in_default g c =
           (has-cause c.in-Err.fault d c.args.pair c.in-Err.ensures.refused c.in_default.not-Memory);
       pair = tt;
       found = tt;
-      whole = tt;
+      complete = tt;
     }
 
 pub returns-in-Ok : goal.returns-in-Ok
@@ -20,8 +20,8 @@ returns-in-Ok g c = record {
   none = tt;
   pair = c.in-Ok.ensures.pair;
   found = c.in-Ok.ensures.found;
-  whole = c.in-Ok.ensures.whole;
+  complete = c.in-Ok.ensures.complete;
 }
 
 pub returns-in-Memory : goal.returns-in-Memory
-returns-in-Memory g c = record { none = tt; pair = tt; found = tt; whole = tt }
+returns-in-Memory g c = record { none = tt; pair = tt; found = tt; complete = tt }

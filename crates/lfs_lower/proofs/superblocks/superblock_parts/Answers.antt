@@ -3,7 +3,7 @@ use Rattle.std.proofs.Common.{◌≡◌, [], ◌∷◌, Option, None, false, rep
 use Rattle.std.specs.Prelude.{IfNone, IfSome, Some}
 use Rattle.std.specs.List.{AllByRecursion}
 use Rattle.lfs_meta.specs.Body.{Pair}
-use Rattle.lfs_meta.specs.Whole.{IsWhole}
+use Rattle.lfs_meta.specs.Complete.{IsComplete}
 use Rattle.lfs_fs.specs.Gathering.{PairPart}
 use Rattle.lfs_fs.specs.Reading.{reading_of}
 use Rattle.lfs_fs.specs.Used.{AddsBlocks, AreTaken}
@@ -55,12 +55,12 @@ walk-preserved g c =
     let at : part.0 ≡ pair = subst (λ (o : Option PairPart). IfSome o (λ p. p.0 ≡ pair)) c.in-Some-2.is c.in_ok-part.ensures.pair in
     let found : r.part pair ≡ Some part.1 =
     subst (λ (o : Option PairPart). IfSome o (λ p. r.part pair ≡ Some p.1)) c.in-Some-2.is c.in_ok-part.ensures.found in
-    let whole : AllByRecursion IsWhole part.1.entries =
-    subst (λ (o : Option PairPart). IfSome o (λ p. AllByRecursion IsWhole p.1.entries)) c.in-Some-2.is c.in_ok-part.ensures.whole in
+    let complete : AllByRecursion IsComplete part.1.entries =
+    subst (λ (o : Option PairPart). IfSome o (λ p. AllByRecursion IsComplete p.1.entries)) c.in-Some-2.is c.in_ok-part.ensures.complete in
     let marked = marked_by c.mark_all.result (AddsBlocks c.walk.table c.mark_all.new.used (pair.0 ∷ pair.1 ∷ []))
     (sym c.is_err.ensures.value ∙ c.if-is_err.false) c.mark_all.ensures.marked in
     let more = gathered_more r c.walk.table c.walk.parts.items pair c.mark_all.new.used part.1
-    (subst (λ (o : Option Pair). IsGathered r c.walk.table c.walk.parts.items o) c.in-Some.is c.walk.invariant) marked found whole in
+    (subst (λ (o : Option Pair). IsGathered r c.walk.table c.walk.parts.items o) c.in-Some.is c.walk.invariant) marked found complete in
     let one : (pair, part.1) ≡ part = ap (λ (p : Pair). (p, part.1)) (sym at) in
     rw (c.lead-next.ensures, c.in_ok-push.ensures.items, ← one) more
 

@@ -1,5 +1,5 @@
 use Rattle.std.proofs.Common.{◌∙◌, sym, arith, is_ok}
-use Rattle.lfs_meta.proofs.CuttingLoop.{taken_next, left_next, cut_whole, pushed}
+use Rattle.lfs_meta.proofs.CuttingLoop.{taken_next, left_next, cut_complete, pushed}
 use Rattle.lfs_meta.proofs.cutting.cut.Goals.{then-run_takes, else-run_takes+in_ok-ok}
 use Rattle.lfs_meta.proofs.cutting.cut.Goals as goal
 
@@ -25,5 +25,5 @@ pub returns : goal.returns
 returns c =
     pushed (is_ok c.push-2.result) c.loop-entry.lengths.items c.push-2.new.self.items c.loop-entry.len c.in_ok-ok-2.ensures.variant
     c.push-2.ensures.items
-    ∙ cut_whole c.args.room c.args.entries.now c.loop-entry.entry-index c.loop-entry.lengths.items c.loop-entry.taken c.loop-entry.len
+    ∙ cut_complete c.args.room c.args.entries.now c.loop-entry.entry-index c.loop-entry.lengths.items c.loop-entry.taken c.loop-entry.len
     (omega (arith, c.loop-entry-test.false)) c.loop-entry.invariant

@@ -19,9 +19,9 @@ loop-row-preserved g c =
     let q : Path = map (λ (n : Bor Name). n.now) c.loop-row.path.items in
     let x : Listed = c.in-Some.row in
     let before : List RowText = map source_text c.loop-row.copied.items in
-    let whole : List Row = rows_listed c.args.rows in
-    let more : AreLeft d (before ++ shown_text d (row_after q x) ∷ []) (rows_after (path_after q x.depth x.entry.name) c.next.new.self) whole =
-    one_more d before q c.loop-row.row-iterator c.next.new.self x whole c.loop-row.invariant c.in-Some.ensures.steps in
+    let complete : List Row = rows_listed c.args.rows in
+    let more : AreLeft d (before ++ shown_text d (row_after q x) ∷ []) (rows_after (path_after q x.depth x.entry.name) c.next.new.self) complete =
+    one_more d before q c.loop-row.row-iterator c.next.new.self x complete c.loop-row.invariant c.in-Some.ensures.steps in
     let followed : map (λ (n : Bor Name). n.now) c.follow_row.new.path.items ≡ path_after q x.depth x.entry.name = c.in_ok-follow_row.ensures in
     let path : map (λ (n : Bor Name). n.now) c.deref.result.now ≡ path_after q x.depth x.entry.name =
     ap (map (λ (n : Bor Name). n.now)) c.deref.ensures.value ∙ followed in
@@ -30,5 +30,5 @@ loop-row-preserved g c =
     let all : map source_text c.push.new.self.items ≡ before ++ shown_text d (row_after q x) ∷ [] =
     ap (map source_text) c.in_ok-push.ensures.items ∙ map-append source_text c.loop-row.copied.items (c.in_ok-source_row.field-0 ∷ [])
     ∙ ap (λ (t : RowText). before ++ t ∷ []) one in
-    subst (λ (t : List RowText). AreLeft d t (rows_after (map (λ (n : Bor Name). n.now) c.follow_row.new.path.items) c.next.new.self) whole) (sym all)
-    (subst (λ (p : Path). AreLeft d (before ++ shown_text d (row_after q x) ∷ []) (rows_after p c.next.new.self) whole) (sym followed) more)
+    subst (λ (t : List RowText). AreLeft d t (rows_after (map (λ (n : Bor Name). n.now) c.follow_row.new.path.items) c.next.new.self) complete) (sym all)
+    (subst (λ (p : Path). AreLeft d (before ++ shown_text d (row_after q x) ∷ []) (rows_after p c.next.new.self) complete) (sym followed) more)

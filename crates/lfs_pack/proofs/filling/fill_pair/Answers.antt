@@ -2,7 +2,7 @@
 use Rattle.std.proofs.Common.{ap, ◌∙◌, rules}
 use Rattle.std.specs.Prelude.{replicate}
 use Rattle.lfs_fs.specs.Directory.{Part}
-use Rattle.lfs_commit.specs.Writing.{IsFirstBlock, stored_part}
+use Rattle.lfs_pair.specs.Writing.{IsFirstBlock, stored_part}
 use Rattle.lfs_law.specs.PairWritten.{link_to}
 use Rattle.lfs_law.specs.SuperblockBytes.{volume_bytes}
 use Rattle.lfs_pack.proofs.PairsFilled.{pair_filled}

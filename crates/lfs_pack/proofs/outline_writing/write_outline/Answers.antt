@@ -6,7 +6,7 @@ use Rattle.lfs_law.specs.PairWritten.{link_to}
 use Rattle.lfs_law.specs.SuperblockBytes.{volume_bytes}
 use Rattle.lfs_write.proofs.LinksOfOutlines.{one_left}
 use Rattle.lfs_pack.specs.Filled.{FillPairs}
-use Rattle.lfs_pack.proofs.PairsFilled.{but_begun, but_whole, but_itself, can_first, can_later, filled_whole, none_filled, one_can}
+use Rattle.lfs_pack.proofs.PairsFilled.{but_begun, but_complete, but_itself, can_first, can_later, filled_complete, none_filled, one_can}
 use Rattle.lfs_pack.proofs.outline_writing.write_outline.Goals as goal
 
 pub returns-in_err-all-clause-others : goal.returns-in_err-all-clause-others
@@ -49,9 +49,9 @@ loop-link-preserved c =
     record {
       disk = c.fill_pair.ensures.others.disk.disk;
       can = can_later bytes attributes d m all front later split c.loop-link.invariant.can c.fill_pair.ensures.others;
-      whole = λ e filled. c.loop-link.invariant.whole e
-          (filled_whole bytes attributes d m e all front later split c.loop-link.invariant.can c.in_ok-fill_pair.ensures.filled filled);
-      but = λ e others. c.loop-link.invariant.but e (but_whole d m e all front later split c.fill_pair.ensures.others others);
+      complete = λ e filled. c.loop-link.invariant.complete e
+          (filled_complete bytes attributes d m e all front later split c.loop-link.invariant.can c.in_ok-fill_pair.ensures.filled filled);
+      but = λ e others. c.loop-link.invariant.but e (but_complete d m e all front later split c.fill_pair.ensures.others others);
     }
 
 pub returns-clause-taken : goal.returns-clause-taken
@@ -61,7 +61,7 @@ returns-clause-taken c =
     let d = c.loop-link.image.disk in
     let none : drop c.loop-link.link-index c.deref-link-items.result.now ≡ [] =
     drop_all c.loop-link.link-index c.deref-link-items.result.now c.loop-link-test.false in
-    c.loop-link.invariant.whole d
+    c.loop-link.invariant.complete d
     (subst (FillPairs d d bytes attributes) (sym none) (none_filled bytes attributes d c.loop-link.invariant.disk))
 
 pub returns-clause-others : goal.returns-clause-others

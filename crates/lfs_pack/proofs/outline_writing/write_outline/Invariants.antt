@@ -11,7 +11,7 @@ abbrev pub invariant-loop-link : goal.invariant-loop-link
 invariant-loop-link l = record {
   disk : IsDisk l.image.disk;
   can : CanFillPairs l.image.disk (volume_bytes l.outline) l.outline.attributes (drop l.link-index l.link-items);
-  whole : (e : Disk) → FillPairs l.image.disk e (volume_bytes l.outline) l.outline.attributes (drop l.link-index l.link-items)
+  complete : (e : Disk) → FillPairs l.image.disk e (volume_bytes l.outline) l.outline.attributes (drop l.link-index l.link-items)
       → TakesOutline l.initial.image.disk e l.outline;
   but : (e : Disk) → IsDiskBut (first_blocks (drop l.link-index l.link-items)) l.image.disk e
       → IsDiskBut (first_blocks (links l.outline.directories)) l.initial.image.disk e;

@@ -27,12 +27,12 @@ each-init g c =
     let a : Area = c.args.area.now in
     let uses : List BlockUse = c.args.salvage.now.uses.items in
     let before : List Unsaved = c.args.salvage.now.unsaved.items in
-    let whole : List Numbered → Plan = calls_plan d base a c.args.number 0 [] uses a.found.items in
+    let complete : List Numbered → Plan = calls_plan d base a c.args.number 0 [] uses a.found.items in
     let empty : c.new-folders.result.items ≡ [] = c.new-folders.ensures.items in
     let none : map (λ x. string_bytes x) c.new-folders.result.items ≡ [] = ap (map (λ x. string_bytes x)) empty in
     record {
-      doing = subst (λ (fs : List (List ℕ)). IsDoing old old before before (calls_plan d base a c.args.number 0 fs uses a.found.items) whole)
-          (sym none) (nothing_done old before whole);
+      doing = subst (λ (fs : List (List ℕ)). IsDoing old old before before (calls_plan d base a c.args.number 0 fs uses a.found.items) complete)
+          (sym none) (nothing_done old before complete);
       names = subst (All (λ (x : String Global). IsNameBelow base (string_bytes x))) (sym empty)
           (All-nil (λ (x : String Global). IsNameBelow base (string_bytes x)));
       below = nothing_below base old old refl;
@@ -55,14 +55,14 @@ returns-in_err-name-clause-made g c =
     let told : List Unsaved = c.each.salvage.unsaved.items in
     let folders : List (List ℕ) = map (λ x. string_bytes x) c.each.folders.items in
     let left : List Numbered → Plan = calls_plan d base a number i folders uses (drop i a.found.items) in
-    let whole : List Numbered → Plan = calls_plan d base a number 0 [] c.args.salvage.now.uses.items a.found.items in
+    let complete : List Numbered → Plan = calls_plan d base a number 0 [] c.args.salvage.now.uses.items a.found.items in
     let next : List (List ℕ) → List BlockUse → List Numbered → Plan = λ (fs : List (List ℕ)) (t : List BlockUse).
     calls_plan d base a number (i + 1) fs t (drop (i + 1) a.found.items) in
     let within : i < length a.found.items = subst (λ (fs : List Found). i < length fs) c.deref-found-items.ensures.value c.each-test.true in
     let is : f ≡ get_or a.found.items i f = c.found-item.is ∙ ap (λ (fs : List Found). get_or fs i f) c.deref-found-items.ensures.value in
     let made = rw c.deref.ensures.value at c.in_err-name.ensures.made in
     let p = err_from_is_err_and c.from_residual.result c.from_residual.ensures.1 in
-    rw (p.1, p.2) (doing_stops old mid before told left whole c.each.invariant.doing made.0 (call_made d base a number i folders made.0 uses f)
+    rw (p.1, p.2) (doing_stops old mid before told left complete c.each.invariant.doing made.0 (call_made d base a number i folders made.0 uses f)
     (found_unsaved d uses number i f) (next (folders ++ folder_of base a folders made.0.folder i f ∷ []) (found_uses d uses number i f))
     (λ rest. calls_more d base a number i folders uses a.found.items f made.0 rest within is) new c.in_err-name.field-0.0 made.2)
 
@@ -90,21 +90,21 @@ returns-in_err-push_folder-clause-made g c =
     let told : List Unsaved = c.each.salvage.unsaved.items in
     let folders : List (List ℕ) = map (λ x. string_bytes x) c.each.folders.items in
     let left : List Numbered → Plan = calls_plan d base a number i folders uses (drop i a.found.items) in
-    let whole : List Numbered → Plan = calls_plan d base a number 0 [] c.args.salvage.now.uses.items a.found.items in
+    let complete : List Numbered → Plan = calls_plan d base a number 0 [] c.args.salvage.now.uses.items a.found.items in
     let next : List (List ℕ) → List BlockUse → List Numbered → Plan = λ (fs : List (List ℕ)) (t : List BlockUse).
     calls_plan d base a number (i + 1) fs t (drop (i + 1) a.found.items) in
     let within : i < length a.found.items = subst (λ (fs : List Found). i < length fs) c.deref-found-items.ensures.value c.each-test.true in
     let is : f ≡ get_or a.found.items i f = c.found-item.is ∙ ap (λ (fs : List Found). get_or fs i f) c.deref-found-items.ensures.value in
     let more : List Unsaved = c.save_found.new.salvage.unsaved.items in
     let made = rw c.deref.ensures.value at c.in_ok-name.ensures.made in
-    let done : IsDoing old new before more (next (folders ++ folder_of base a folders made.0.folder i f ∷ []) (found_uses d uses number i f)) whole =
-    doing_more old mid before told left whole c.each.invariant.doing made.0 (call_made d base a number i folders made.0 uses f)
+    let done : IsDoing old new before more (next (folders ++ folder_of base a folders made.0.folder i f ∷ []) (found_uses d uses number i f)) complete =
+    doing_more old mid before told left complete c.each.invariant.doing made.0 (call_made d base a number i folders made.0 uses f)
     (found_unsaved d uses number i f) (next (folders ++ folder_of base a folders made.0.folder i f ∷ []) (found_uses d uses number i f))
     (λ rest. calls_more d base a number i folders uses a.found.items f made.0 rest within is) new more made.2
     c.in_ok-name.ensures.unsaved in
     let p = err_from_is_err_and c.from_residual-in_err-push_folder.result c.from_residual-in_err-push_folder.ensures.1 in
     rw (p.1, p.2) (doing_first old new before more
-    (next (folders ++ folder_of base a folders made.0.folder i f ∷ []) (found_uses d uses number i f)) whole done)
+    (next (folders ++ folder_of base a folders made.0.folder i f ∷ []) (found_uses d uses number i f)) complete done)
 
 pub returns-in_err-push_folder-clause-below : goal.returns-in_err-push_folder-clause-below
 returns-in_err-push_folder-clause-below g c =
@@ -130,15 +130,15 @@ each-preserved g c =
     let told : List Unsaved = c.each.salvage.unsaved.items in
     let folders : List (List ℕ) = map (λ x. string_bytes x) c.each.folders.items in
     let left : List Numbered → Plan = calls_plan d base a number i folders uses (drop i a.found.items) in
-    let whole : List Numbered → Plan = calls_plan d base a number 0 [] c.args.salvage.now.uses.items a.found.items in
+    let complete : List Numbered → Plan = calls_plan d base a number 0 [] c.args.salvage.now.uses.items a.found.items in
     let next : List (List ℕ) → List BlockUse → List Numbered → Plan = λ (fs : List (List ℕ)) (t : List BlockUse).
     calls_plan d base a number (i + 1) fs t (drop (i + 1) a.found.items) in
     let within : i < length a.found.items = subst (λ (fs : List Found). i < length fs) c.deref-found-items.ensures.value c.each-test.true in
     let is : f ≡ get_or a.found.items i f = c.found-item.is ∙ ap (λ (fs : List Found). get_or fs i f) c.deref-found-items.ensures.value in
     let more : List Unsaved = c.save_found.new.salvage.unsaved.items in
     let made = rw c.deref.ensures.value at c.in_ok-name.ensures.made in
-    let done : IsDoing old new before more (next (folders ++ folder_of base a folders made.0.folder i f ∷ []) (found_uses d uses number i f)) whole =
-    doing_more old mid before told left whole c.each.invariant.doing made.0 (call_made d base a number i folders made.0 uses f)
+    let done : IsDoing old new before more (next (folders ++ folder_of base a folders made.0.folder i f ∷ []) (found_uses d uses number i f)) complete =
+    doing_more old mid before told left complete c.each.invariant.doing made.0 (call_made d base a number i folders made.0 uses f)
     (found_unsaved d uses number i f) (next (folders ++ folder_of base a folders made.0.folder i f ∷ []) (found_uses d uses number i f))
     (λ rest. calls_more d base a number i folders uses a.found.items f made.0 rest within is) new more made.2
     c.in_ok-name.ensures.unsaved in
@@ -151,8 +151,8 @@ each-preserved g c =
     ∙ map-append (λ (x : String Global). string_bytes x) c.each.folders.items (c.in_ok-name.name ∷ [])
     ∙ ap (λ (n : List ℕ). folders ++ n ∷ []) made.1 in
     record {
-      doing = subst (λ (fs : List (List ℕ)). IsDoing old new before more (next fs c.save_found.new.salvage.uses.items) whole) (sym pushed)
-          (subst (λ (t : List BlockUse). IsDoing old new before more (next (folders ++ folder_of base a folders made.0.folder i f ∷ []) t) whole)
+      doing = subst (λ (fs : List (List ℕ)). IsDoing old new before more (next fs c.save_found.new.salvage.uses.items) complete) (sym pushed)
+          (subst (λ (t : List BlockUse). IsDoing old new before more (next (folders ++ folder_of base a folders made.0.folder i f ∷ []) t) complete)
           (sym used) done);
       names = subst (All (λ (x : String Global). IsNameBelow base (string_bytes x))) (sym more_folders)
           (All-push (λ (x : String Global). IsNameBelow base (string_bytes x)) c.each.folders.items c.in_ok-name.name c.each.invariant.names
@@ -175,13 +175,13 @@ returns-clause-made g c =
     let told : List Unsaved = c.each.salvage.unsaved.items in
     let plan : List Found → List Numbered → Plan =
     calls_plan d c.args.base.now a c.args.number c.each.call (map (λ x. string_bytes x) c.each.folders.items) c.each.salvage.uses.items in
-    let whole : List Numbered → Plan = calls_plan d c.args.base.now a c.args.number 0 [] c.args.salvage.now.uses.items a.found.items in
+    let complete : List Numbered → Plan = calls_plan d c.args.base.now a c.args.number 0 [] c.args.salvage.now.uses.items a.found.items in
     let beyond : length a.found.items ≤ c.each.call =
     subst (λ (fs : List Found). length fs ≤ c.each.call) c.deref-found-items.ensures.value c.each-test.false in
-    let done : IsDoing old new before told (plan []) whole =
-    subst (λ (left : List Numbered → Plan). IsDoing old new before told left whole) (at_drop_all plan a.found.items c.each.call beyond)
+    let done : IsDoing old new before told (plan []) complete =
+    subst (λ (left : List Numbered → Plan). IsDoing old new before told left complete) (at_drop_all plan a.found.items c.each.call beyond)
     c.each.invariant.doing in
-    all_made old new before told (plan []) whole refl refl done
+    all_made old new before told (plan []) complete refl refl done
 
 pub returns-clause-uses : goal.returns-clause-uses
 returns-clause-uses g c =
@@ -193,11 +193,11 @@ returns-clause-uses g c =
     let told : List Unsaved = c.each.salvage.unsaved.items in
     let plan : List Found → List Numbered → Plan =
     calls_plan d c.args.base.now a c.args.number c.each.call (map (λ x. string_bytes x) c.each.folders.items) c.each.salvage.uses.items in
-    let whole : List Numbered → Plan = calls_plan d c.args.base.now a c.args.number 0 [] c.args.salvage.now.uses.items a.found.items in
+    let complete : List Numbered → Plan = calls_plan d c.args.base.now a c.args.number 0 [] c.args.salvage.now.uses.items a.found.items in
     let beyond : length a.found.items ≤ c.each.call =
     subst (λ (fs : List Found). length fs ≤ c.each.call) c.deref-found-items.ensures.value c.each-test.false in
-    let done : IsDoing old new before told (plan []) whole =
-    subst (λ (left : List Numbered → Plan). IsDoing old new before told left whole) (at_drop_all plan a.found.items c.each.call beyond)
+    let done : IsDoing old new before told (plan []) complete =
+    subst (λ (left : List Numbered → Plan). IsDoing old new before told left complete) (at_drop_all plan a.found.items c.each.call beyond)
     c.each.invariant.doing in
     (done.doing []).uses
 
@@ -211,10 +211,10 @@ returns-clause-unsaved g c =
     let told : List Unsaved = c.each.salvage.unsaved.items in
     let plan : List Found → List Numbered → Plan =
     calls_plan d c.args.base.now a c.args.number c.each.call (map (λ x. string_bytes x) c.each.folders.items) c.each.salvage.uses.items in
-    let whole : List Numbered → Plan = calls_plan d c.args.base.now a c.args.number 0 [] c.args.salvage.now.uses.items a.found.items in
+    let complete : List Numbered → Plan = calls_plan d c.args.base.now a c.args.number 0 [] c.args.salvage.now.uses.items a.found.items in
     let beyond : length a.found.items ≤ c.each.call =
     subst (λ (fs : List Found). length fs ≤ c.each.call) c.deref-found-items.ensures.value c.each-test.false in
-    let done : IsDoing old new before told (plan []) whole =
-    subst (λ (left : List Numbered → Plan). IsDoing old new before told left whole) (at_drop_all plan a.found.items c.each.call beyond)
+    let done : IsDoing old new before told (plan []) complete =
+    subst (λ (left : List Numbered → Plan). IsDoing old new before told left complete) (at_drop_all plan a.found.items c.each.call beyond)
     c.each.invariant.doing in
-    all_told old new before told (plan []) whole refl refl done
+    all_told old new before told (plan []) complete refl refl done

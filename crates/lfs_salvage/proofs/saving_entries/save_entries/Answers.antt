@@ -5,11 +5,11 @@ use Rattle.std.proofs.lemmas.Result.{err_from_is_err_and}
 use Rattle.lfs_block.specs.Disk.{Disk}
 use Rattle.lfs_host.specs.NewFolder.{Made}
 use Rattle.lfs_meta.specs.Entry.{StoredEntry}
-use Rattle.lfs_salvage.specs.AreaMade.{entry_made, entry_uses, home_of}
+use Rattle.lfs_salvage.specs.AreaMade.{entry_made, entry_uses, parent_of}
 use Rattle.lfs_salvage.specs.Fate.{fate}
 use Rattle.lfs_salvage.specs.Unsaved.{unsaved}
 use Rattle.lfs_salvage.specs.declared.block_use.BlockUse.{BlockUse}
-use Rattle.lfs_salvage.specs.declared.home.Home.{Home}
+use Rattle.lfs_salvage.specs.declared.parent.Parent.{Parent}
 use Rattle.lfs_salvage.specs.declared.unsaved.Unsaved.{Unsaved}
 use Rattle.lfs_salvage.proofs.AreaLemmas.{IsDoing, Plan, all_made, all_told, doing_more, doing_stops, entries_more, entries_plan, nothing_done}
 use Rattle.lfs_salvage.proofs.SavingLemmas.{below_then, nothing_below}
@@ -38,15 +38,15 @@ returns-in_err-save_entry-clause-made g c =
     let e : StoredEntry = c.index-entries-index.result in
     let i : ℕ = c.each.index in
     let uses : List BlockUse = c.each.salvage.uses.items in
-    let home : Home = home_of c.args.area c.args.call i in
+    let parent : Parent = parent_of c.args.area c.args.call i in
     let before : List Unsaved = c.args.salvage.now.unsaved.items in
     let told : List Unsaved = c.each.salvage.unsaved.items in
     let left : List Bool → Plan = entries_plan d above block uses c.args.area c.args.call i (drop i es) in
-    let whole : List Bool → Plan = entries_plan d above block c.args.salvage.now.uses.items c.args.area c.args.call 0 es in
+    let complete : List Bool → Plan = entries_plan d above block c.args.salvage.now.uses.items c.args.area c.args.call 0 es in
     let made = c.in_err-save_entry.ensures.made in
     let p = err_from_is_err_and c.from_residual.result c.from_residual.ensures.1 in
-    rw (p.1, p.2) (doing_stops old mid before told left whole c.each.invariant.doing made.0 (entry_made d above made.0 block i uses e)
-    (unsaved home (fate d uses e)) (entries_plan d above block (entry_uses d uses home e) c.args.area c.args.call (i + 1) (drop (i + 1) es))
+    rw (p.1, p.2) (doing_stops old mid before told left complete c.each.invariant.doing made.0 (entry_made d above made.0 block i uses e)
+    (unsaved parent (fate d uses e)) (entries_plan d above block (entry_uses d uses parent e) c.args.area c.args.call (i + 1) (drop (i + 1) es))
     (λ rest. entries_more d above block uses c.args.area c.args.call i es e made.0 rest c.each-test.true c.index-entries-index.is) new
     c.in_err-save_entry.field-0.0 made.1)
 
@@ -67,23 +67,23 @@ each-preserved g c =
     let e : StoredEntry = c.index-entries-index.result in
     let i : ℕ = c.each.index in
     let uses : List BlockUse = c.each.salvage.uses.items in
-    let home : Home = home_of c.args.area c.args.call i in
+    let parent : Parent = parent_of c.args.area c.args.call i in
     let before : List Unsaved = c.args.salvage.now.unsaved.items in
     let told : List Unsaved = c.each.salvage.unsaved.items in
     let left : List Bool → Plan = entries_plan d above block uses c.args.area c.args.call i (drop i es) in
-    let whole : List Bool → Plan = entries_plan d above block c.args.salvage.now.uses.items c.args.area c.args.call 0 es in
+    let complete : List Bool → Plan = entries_plan d above block c.args.salvage.now.uses.items c.args.area c.args.call 0 es in
     let more : List Unsaved = c.save_entry.new.salvage.unsaved.items in
     let next : List BlockUse → List Bool → Plan = λ (t : List BlockUse).
     entries_plan d above block t c.args.area c.args.call (i + 1) (drop (i + 1) es) in
     let made = c.in_ok-save_entry.ensures.made in
-    let done : IsDoing old new before more (next (entry_uses d uses home e)) whole =
-    doing_more old mid before told left whole c.each.invariant.doing made.0 (entry_made d above made.0 block i uses e)
-    (unsaved home (fate d uses e)) (next (entry_uses d uses home e))
+    let done : IsDoing old new before more (next (entry_uses d uses parent e)) complete =
+    doing_more old mid before told left complete c.each.invariant.doing made.0 (entry_made d above made.0 block i uses e)
+    (unsaved parent (fate d uses e)) (next (entry_uses d uses parent e))
     (λ rest. entries_more d above block uses c.args.area c.args.call i es e made.0 rest c.each-test.true c.index-entries-index.is) new more
     made.1 c.in_ok-save_entry.ensures.unsaved in
-    let used : c.save_entry.new.salvage.uses.items ≡ entry_uses d uses home e = c.in_ok-save_entry.ensures.uses in
+    let used : c.save_entry.new.salvage.uses.items ≡ entry_uses d uses parent e = c.in_ok-save_entry.ensures.uses in
     record {
-      doing = subst (λ (t : List BlockUse). IsDoing old new before more (next t) whole) (sym used) done;
+      doing = subst (λ (t : List BlockUse). IsDoing old new before more (next t) complete) (sym used) done;
       below = λ top above'. below_then top old mid new (c.each.invariant.below top above') (c.save_entry.ensures.below top above');
       kept = (
         c.save_entry.ensures.kept.0 ∙ c.each.invariant.kept.0,
@@ -102,12 +102,12 @@ returns-clause-made g c =
     let told : List Unsaved = c.each.salvage.unsaved.items in
     let plan : List StoredEntry → List Bool → Plan =
     entries_plan d c.args.above.now c.args.block c.each.salvage.uses.items c.args.area c.args.call c.each.index in
-    let whole : List Bool → Plan =
+    let complete : List Bool → Plan =
     entries_plan d c.args.above.now c.args.block c.args.salvage.now.uses.items c.args.area c.args.call 0 es in
-    let done : IsDoing old new before told (plan []) whole =
-    subst (λ (left : List Bool → Plan). IsDoing old new before told left whole) (at_drop_all plan es c.each.index c.each-test.false)
+    let done : IsDoing old new before told (plan []) complete =
+    subst (λ (left : List Bool → Plan). IsDoing old new before told left complete) (at_drop_all plan es c.each.index c.each-test.false)
     c.each.invariant.doing in
-    all_made old new before told (plan []) whole refl refl done
+    all_made old new before told (plan []) complete refl refl done
 
 pub returns-clause-uses : goal.returns-clause-uses
 returns-clause-uses g c =
@@ -119,10 +119,10 @@ returns-clause-uses g c =
     let told : List Unsaved = c.each.salvage.unsaved.items in
     let plan : List StoredEntry → List Bool → Plan =
     entries_plan d c.args.above.now c.args.block c.each.salvage.uses.items c.args.area c.args.call c.each.index in
-    let whole : List Bool → Plan =
+    let complete : List Bool → Plan =
     entries_plan d c.args.above.now c.args.block c.args.salvage.now.uses.items c.args.area c.args.call 0 es in
-    let done : IsDoing old new before told (plan []) whole =
-    subst (λ (left : List Bool → Plan). IsDoing old new before told left whole) (at_drop_all plan es c.each.index c.each-test.false)
+    let done : IsDoing old new before told (plan []) complete =
+    subst (λ (left : List Bool → Plan). IsDoing old new before told left complete) (at_drop_all plan es c.each.index c.each-test.false)
     c.each.invariant.doing in
     (done.doing []).uses
 
@@ -136,9 +136,9 @@ returns-clause-unsaved g c =
     let told : List Unsaved = c.each.salvage.unsaved.items in
     let plan : List StoredEntry → List Bool → Plan =
     entries_plan d c.args.above.now c.args.block c.each.salvage.uses.items c.args.area c.args.call c.each.index in
-    let whole : List Bool → Plan =
+    let complete : List Bool → Plan =
     entries_plan d c.args.above.now c.args.block c.args.salvage.now.uses.items c.args.area c.args.call 0 es in
-    let done : IsDoing old new before told (plan []) whole =
-    subst (λ (left : List Bool → Plan). IsDoing old new before told left whole) (at_drop_all plan es c.each.index c.each-test.false)
+    let done : IsDoing old new before told (plan []) complete =
+    subst (λ (left : List Bool → Plan). IsDoing old new before told left complete) (at_drop_all plan es c.each.index c.each-test.false)
     c.each.invariant.doing in
-    all_told old new before told (plan []) whole refl refl done
+    all_told old new before told (plan []) complete refl refl done

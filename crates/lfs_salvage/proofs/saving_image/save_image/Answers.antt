@@ -10,7 +10,7 @@ use Rattle.lfs_salvage.specs.Saving.{Stops}
 use Rattle.lfs_salvage.specs.declared.block_use.BlockUse.{BlockUse}
 use Rattle.lfs_salvage.specs.declared.front.Front.{Front}
 use Rattle.lfs_salvage.specs.declared.unsaved.Unsaved.{Unsaved}
-use Rattle.lfs_salvage.proofs.SavedLemmas.{HasSurvey, all_first, has_survey, part_is_made, stops_left, stops_surveyed, survey_len, whole_saves, whole_unsaved, whole_used}
+use Rattle.lfs_salvage.proofs.SavedLemmas.{HasSurvey, all_first, has_survey, part_is_made, stops_left, stops_surveyed, survey_len, complete_saves, complete_unsaved, complete_used}
 use Rattle.lfs_salvage.proofs.SavingLemmas.{below_then}
 use Rattle.lfs_survey.specs.declared.area.Area.{Area}
 use Rattle.lfs_survey.specs.declared.survey.Survey.{Survey}
@@ -98,7 +98,7 @@ returns-in_err-save_all_lost-clause-stopped g c =
     let counted : c.len-first.result ≡ length areas = c.len-first.ensures ∙ ap vec_len c.find_left.ensures.areas ∙ survey.areas.ok.0 in
     let others = c.in_err-save_all_lost.ensures.made in
     let stop : Stops c.in_err-save_all_lost.field-0.0 old new (image_made d dir h.numbered others.0 areas lone) =
-    whole_saves d dir lost areas lone c.deref-5.result.now c.deref-6.result.now old mid used c.mark_areas.new.self.uses.items told front
+    complete_saves d dir lost areas lone c.deref-5.result.now c.deref-6.result.now old mid used c.mark_areas.new.self.uses.items told front
     c.len-first.result h there counted c.mark_areas.ensures.uses c.deref-5.ensures.value c.deref-6.ensures.value others.0
     (Err c.in_err-save_all_lost.field-0.0) new others.1 in
     let p = err_from_is_err_and c.from_residual-in_err-save_all_lost.result c.from_residual-in_err-save_all_lost.ensures.1 in
@@ -141,7 +141,7 @@ returns-in_err-append-clause-stopped g c =
     let counted : c.len-first.result ≡ length areas = c.len-first.ensures ∙ ap vec_len c.find_left.ensures.areas ∙ survey.areas.ok.0 in
     let others = c.in_ok-save_all_lost.ensures.made in
     let made : Makes old new (image_made d dir h.numbered others.0 areas lone) =
-    whole_saves d dir lost areas lone c.deref-5.result.now c.deref-6.result.now old mid used c.mark_areas.new.self.uses.items told front
+    complete_saves d dir lost areas lone c.deref-5.result.now c.deref-6.result.now old mid used c.mark_areas.new.self.uses.items told front
     c.len-first.result h there counted c.mark_areas.ensures.uses c.deref-5.ensures.value c.deref-6.ensures.value others.0 (Ok tt) new
     others.1 in
     let p = err_from_is_err_and c.from_residual-in_err-append.result c.from_residual-in_err-append.ensures.1 in
@@ -191,17 +191,17 @@ returns-clause-saved g c =
         surveyed = c.in_ok-survey.ensures;
         left = left;
         areas = rw c.find_left.ensures.areas at c.in_ok-append.ensures.items;
-        uses = whole_used d dir lost areas lone c.deref-5.result.now c.deref-6.result.now old mid used between told front
+        uses = complete_used d dir lost areas lone c.deref-5.result.now c.deref-6.result.now old mid used between told front
             c.len-first.result h there counted c.mark_areas.ensures.uses c.deref-5.ensures.value c.deref-6.ensures.value
             c.save_all_lost.new.salvage.uses.items c.in_ok-save_all_lost.ensures.uses;
-        unsaved = whole_unsaved d dir lost areas lone c.deref-5.result.now c.deref-6.result.now old mid used between told front
+        unsaved = complete_unsaved d dir lost areas lone c.deref-5.result.now c.deref-6.result.now old mid used between told front
             c.len-first.result h there counted c.mark_areas.ensures.uses c.deref-5.ensures.value c.deref-6.ensures.value
             c.save_all_lost.new.salvage.unsaved.items
             (rw c.mark_areas.ensures.unsaved at c.in_ok-save_all_lost.ensures.unsaved);
       };
       numbered = h.numbered;
       others = others.0;
-      made = whole_saves d dir lost areas lone c.deref-5.result.now c.deref-6.result.now old mid used between told front
+      made = complete_saves d dir lost areas lone c.deref-5.result.now c.deref-6.result.now old mid used between told front
           c.len-first.result h there counted c.mark_areas.ensures.uses c.deref-5.ensures.value c.deref-6.ensures.value others.0 (Ok tt) new
           others.1;
     }

@@ -47,12 +47,12 @@ returns-in_err-save_lost-clause-made g c =
     let before : List Unsaved = c.args.salvage.now.unsaved.items in
     let told : List Unsaved = c.each.salvage.unsaved.items in
     let left : List (List Numbered) → Plan = lost_plan d dir lost c.each.front n uses (drop c.each.number areas) in
-    let whole : List (List Numbered) → Plan = lost_plan d dir lost c.args.front.now c.args.first c.args.salvage.now.uses.items areas in
+    let complete : List (List Numbered) → Plan = lost_plan d dir lost c.args.front.now c.args.first c.args.salvage.now.uses.items areas in
     let next : Front → ℕ → List BlockUse → List (List Numbered) → Plan = λ (front : Front) (m : ℕ) (t : List BlockUse).
     lost_plan d dir lost front m t (drop (c.each.number + 1) areas) in
     let made = c.in_err-save_lost.ensures.made in
     let p = err_from_is_err_and c.from_residual.result c.from_residual.ensures.1 in
-    rw (p.1, p.2) (doing_stops old mid before told left whole c.each.invariant.doing made.0 (lost_made d dir lost c.each.front n made.0 uses a)
+    rw (p.1, p.2) (doing_stops old mid before told left complete c.each.invariant.doing made.0 (lost_made d dir lost c.each.front n made.0 uses a)
     (lost_unsaved d n uses a) (next (front_behind c.each.front a) (n + 1) (lost_uses d n uses a))
     (λ rest. lost_more d dir lost c.each.front n c.each.number uses areas a made.0 rest c.each-test.true c.index-areas-number.is) new
     c.in_err-save_lost.field-0.0 made.1)
@@ -77,13 +77,13 @@ each-preserved g c =
     let before : List Unsaved = c.args.salvage.now.unsaved.items in
     let told : List Unsaved = c.each.salvage.unsaved.items in
     let left : List (List Numbered) → Plan = lost_plan d dir lost c.each.front n uses (drop c.each.number areas) in
-    let whole : List (List Numbered) → Plan = lost_plan d dir lost c.args.front.now c.args.first c.args.salvage.now.uses.items areas in
+    let complete : List (List Numbered) → Plan = lost_plan d dir lost c.args.front.now c.args.first c.args.salvage.now.uses.items areas in
     let next : Front → ℕ → List BlockUse → List (List Numbered) → Plan = λ (front : Front) (m : ℕ) (t : List BlockUse).
     lost_plan d dir lost front m t (drop (c.each.number + 1) areas) in
     let more : List Unsaved = c.save_lost.new.salvage.unsaved.items in
     let made = c.in_ok-save_lost.ensures.made in
-    let done : IsDoing old new before more (next (front_behind c.each.front a) (n + 1) (lost_uses d n uses a)) whole =
-    doing_more old mid before told left whole c.each.invariant.doing made.0 (lost_made d dir lost c.each.front n made.0 uses a)
+    let done : IsDoing old new before more (next (front_behind c.each.front a) (n + 1) (lost_uses d n uses a)) complete =
+    doing_more old mid before told left complete c.each.invariant.doing made.0 (lost_made d dir lost c.each.front n made.0 uses a)
     (lost_unsaved d n uses a) (next (front_behind c.each.front a) (n + 1) (lost_uses d n uses a))
     (λ rest. lost_more d dir lost c.each.front n c.each.number uses areas a made.0 rest c.each-test.true c.index-areas-number.is) new more
     made.1 c.in_ok-save_lost.ensures.unsaved in
@@ -95,10 +95,10 @@ each-preserved g c =
     let ahead : front_behind_all c.each.front (drop c.each.number areas) ≡ front_behind_all c.args.front.now areas = c.each.invariant.front in
     let further : n + 1 ≡ c.args.first + (c.each.number + 1) = omega arith in
     record {
-      doing = subst (λ (m : ℕ). IsDoing old new before more (next c.save_lost.new.front m c.save_lost.new.salvage.uses.items) whole) further
-          (subst (λ (f : Front). IsDoing old new before more (next f (n + 1) c.save_lost.new.salvage.uses.items) whole)
+      doing = subst (λ (m : ℕ). IsDoing old new before more (next c.save_lost.new.front m c.save_lost.new.salvage.uses.items) complete) further
+          (subst (λ (f : Front). IsDoing old new before more (next f (n + 1) c.save_lost.new.salvage.uses.items) complete)
           (sym lacks)
-          (subst (λ (t : List BlockUse). IsDoing old new before more (next (front_behind c.each.front a) (n + 1) t) whole)
+          (subst (λ (t : List BlockUse). IsDoing old new before more (next (front_behind c.each.front a) (n + 1) t) complete)
           (sym used) done));
       front = subst (λ (f : Front). front_behind_all f (drop (c.each.number + 1) areas) ≡ front_behind_all c.args.front.now areas)
           (sym lacks)
@@ -121,12 +121,12 @@ returns-clause-made g c =
     let told : List Unsaved = c.each.salvage.unsaved.items in
     let plan : List Area → List (List Numbered) → Plan =
     lost_plan d c.args.dir.now c.args.lost.now c.each.front (c.args.first + c.each.number) c.each.salvage.uses.items in
-    let whole : List (List Numbered) → Plan =
+    let complete : List (List Numbered) → Plan =
     lost_plan d c.args.dir.now c.args.lost.now c.args.front.now c.args.first c.args.salvage.now.uses.items areas in
-    let done : IsDoing old new before told (plan []) whole =
-    subst (λ (left : List (List Numbered) → Plan). IsDoing old new before told left whole)
+    let done : IsDoing old new before told (plan []) complete =
+    subst (λ (left : List (List Numbered) → Plan). IsDoing old new before told left complete)
     (at_drop_all plan areas c.each.number c.each-test.false) c.each.invariant.doing in
-    all_made old new before told (plan []) whole refl refl done
+    all_made old new before told (plan []) complete refl refl done
 
 pub returns-clause-uses : goal.returns-clause-uses
 returns-clause-uses g c =
@@ -138,10 +138,10 @@ returns-clause-uses g c =
     let told : List Unsaved = c.each.salvage.unsaved.items in
     let plan : List Area → List (List Numbered) → Plan =
     lost_plan d c.args.dir.now c.args.lost.now c.each.front (c.args.first + c.each.number) c.each.salvage.uses.items in
-    let whole : List (List Numbered) → Plan =
+    let complete : List (List Numbered) → Plan =
     lost_plan d c.args.dir.now c.args.lost.now c.args.front.now c.args.first c.args.salvage.now.uses.items areas in
-    let done : IsDoing old new before told (plan []) whole =
-    subst (λ (left : List (List Numbered) → Plan). IsDoing old new before told left whole)
+    let done : IsDoing old new before told (plan []) complete =
+    subst (λ (left : List (List Numbered) → Plan). IsDoing old new before told left complete)
     (at_drop_all plan areas c.each.number c.each-test.false) c.each.invariant.doing in
     (done.doing []).uses
 
@@ -155,9 +155,9 @@ returns-clause-unsaved g c =
     let told : List Unsaved = c.each.salvage.unsaved.items in
     let plan : List Area → List (List Numbered) → Plan =
     lost_plan d c.args.dir.now c.args.lost.now c.each.front (c.args.first + c.each.number) c.each.salvage.uses.items in
-    let whole : List (List Numbered) → Plan =
+    let complete : List (List Numbered) → Plan =
     lost_plan d c.args.dir.now c.args.lost.now c.args.front.now c.args.first c.args.salvage.now.uses.items areas in
-    let done : IsDoing old new before told (plan []) whole =
-    subst (λ (left : List (List Numbered) → Plan). IsDoing old new before told left whole)
+    let done : IsDoing old new before told (plan []) complete =
+    subst (λ (left : List (List Numbered) → Plan). IsDoing old new before told left complete)
     (at_drop_all plan areas c.each.number c.each-test.false) c.each.invariant.doing in
-    all_told old new before told (plan []) whole refl refl done
+    all_told old new before told (plan []) complete refl refl done

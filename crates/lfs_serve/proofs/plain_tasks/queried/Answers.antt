@@ -52,11 +52,11 @@ returns-clause-ended g c =
     let manner : Manner = record { takes_older = request.takes_older; view = c.args.view } in
     let first = c.taken_up.ensures.kept.0 in
     let then = c.question_of.ensures.kept.0 in
-    let step = Ask c.in_ok-question.question in
+    let step = Ask c.in_ok-question.question c.args.form in
     let reads = subst (λ (f : Option Files). HandsQuestion f c.args.query.now c.in_ok-asked.asked) first.0 c.in_ok-asked.ensures.question in
     inl (
       step,
-      (c.in_ok-asked.asked, reads, c.in_ok-question.ensures),
+      (c.in_ok-asked.asked, reads, c.in_ok-question.ensures, refl),
       step_from step manner request.size request.image.now mid old new (stopped_by c.stepped_in.result)
           (then.0 ∙ first.0) (then.2 ∙ first.2) c.stepped_in.ensures.ended,
     )

@@ -9,11 +9,11 @@ returns-in-Ok-clause-refused g c =
     let d = c.args.image.now.disk in
     let e = c.in-Ok.other.disk in
     IfErr-weaker c.compare.result _ _
-    (λ f refuses. compared_refused d e c.args.size c.args.others.items f c.in-Ok.ensures.disk c.in-Ok.ensures.size c.in-Ok.ensures.bytes refuses)
+    (λ f refuses. compared_refused c.args.said d e c.args.size c.args.others.items f c.in-Ok.ensures.disk c.in-Ok.ensures.size c.in-Ok.ensures.bytes refuses)
     c.compare.ensures.refused
 
 pub returns-in-Ok-clause-sent : goal.returns-in-Ok-clause-sent
 returns-in-Ok-clause-sent g c =
-    compared_sent c.args.quiet c.args.image.now.disk c.in-Ok.other.disk c.args.size c.args.others.items (result_err c.compare.result)
+    compared_sent c.args.said c.args.image.now.disk c.in-Ok.other.disk c.args.size c.args.others.items (result_err c.compare.result)
     (g.S.Sink.sent c.args.out.now) (g.S.Sink.sent c.compare.new.out) c.in-Ok.ensures.disk c.in-Ok.ensures.size c.in-Ok.ensures.bytes
     c.compare.ensures.sent

@@ -10,14 +10,14 @@ use Rattle.lfs_block.specs.Disk.{Disk}
 use Rattle.lfs_meta.specs.Attribute.{Attributes}
 use Rattle.lfs_fs.specs.Tree.{File}
 use Rattle.lfs_command.specs.declared.refusal.Refusal.{Refusal}
-use Rattle.lfs_sink.specs.Send.{Sends}
+use Rattle.lfs_host.specs.Send.{Sends}
 use Rattle.lfs_meta.specs.Name.{Name}
 use Rattle.lfs_fs.specs.Entry.{Entry, Body}
 use Rattle.lfs_fs.specs.Path.{Path}
 use Rattle.lfs_fs.specs.RowShown.{HasBlocks, shown_body}
 use Rattle.lfs_fs.specs.Tree.{entry_at}
 use Rattle.lfs_fs.specs.Volume.{Volume}
-use Rattle.lfs_law.specs.HomeChecks.{entry_checks}
+use Rattle.lfs_law.specs.ParentChecks.{entry_checks}
 use Rattle.lfs_draft.specs.Editable.{NamesRise}
 use Rattle.lfs_command.specs.Verdict.{first_refusal}
 use Rattle.lfs_step.specs.Contents.{IsContents}
@@ -74,10 +74,10 @@ send_body-requires-clause-blocks g c =
 sent_contents : (result : Result Bool Refusal) (d : Disk) (text : List ℕ) (body : Body) (old new : Option (List ℕ))
     → ((bytes : List ℕ) → ((a : Attributes) → shown_body d body a ≡ File bytes a) → IsContents d text bytes)
     → MatchResult result
-    (λ whole. (bytes : List ℕ) × ((a : Attributes) → shown_body d body a ≡ File bytes a) × Sends whole old new bytes)
+    (λ complete. (bytes : List ℕ) × ((a : Attributes) → shown_body d body a ≡ File bytes a) × Sends complete old new bytes)
     (λ refusal. Keeps old new)
     → SendsContents result d text old new
-sent_contents (Ok whole) d text body old new are (bytes, shown, sends) = (bytes, are bytes shown, sends)
+sent_contents (Ok complete) d text body old new are (bytes, shown, sends) = (bytes, are bytes shown, sends)
 sent_contents (Err refusal) d text body old new are keeps = keeps
 
 pub returns-clause-sent : goal.returns-clause-sent

@@ -4,8 +4,8 @@ use Rattle.std.proofs.lemmas.Result.{err_from_is_err_and}
 use Rattle.lfs_block.specs.Disk.{Disk}
 use Rattle.lfs_block.specs.Patch.{ChangeSet}
 use Rattle.lfs_fs.specs.Mounted.{IsOutlineOf}
-use Rattle.lfs_journal.specs.Opened.{DenotesChanges, RefusesMounts}
-use Rattle.lfs_journal.proofs.OpeningLemmas.{known_mounts}
+use Rattle.lfs_session.specs.Opened.{DenotesChanges, RefusesMounts}
+use Rattle.lfs_session.proofs.OpeningLemmas.{known_mounts}
 use Rattle.lfs_step.specs.Between.{TellsAll, images_at}
 use Rattle.lfs_step.proofs.LogLemmas.{logged, images_refused}
 use Rattle.lfs_step.proofs.log.log_of.Goals as goal
@@ -35,7 +35,7 @@ returns-clause-text c =
     let old = c.new-text.result.bytes.items in
     let new = c.tell_all.new.text.bytes.items in
     let read : DenotesChanges d c.args.journal.now ps done = search rules in
-    let told : TellsAll e c.deref.result.now done done old new = search rules in
-    let same : TellsAll d ps done done old new = subst (λ (x : Disk). TellsAll x ps done done old new) c.read_changes.ensures.disk
-    (subst (λ (xs : List ChangeSet). TellsAll e xs done done old new) c.deref.ensures.value told) in
-    logged d c.args.journal.now ps done old new read c.new-text.ensures.empty same
+    let told : TellsAll c.args.form e c.deref.result.now done done old new = search rules in
+    let same : TellsAll c.args.form d ps done done old new = subst (λ (x : Disk). TellsAll c.args.form x ps done done old new) c.read_changes.ensures.disk
+    (subst (λ (xs : List ChangeSet). TellsAll c.args.form e xs done done old new) c.deref.ensures.value told) in
+    logged c.args.form d c.args.journal.now ps done old new read c.new-text.ensures.empty same

@@ -4,5 +4,5 @@ use Rattle.lfs_step.proofs.recounting.recount.Goals as goal
 
 pub returns-clause-refused : goal.returns-clause-refused
 returns-clause-refused g c =
-    recount_unsent c.args.image.now.disk c.args.journal.now c.in_ok-text.text.items c.sent_whole.result c.send.result c.sent_whole.ensures
+    recount_unsent c.args.form c.args.image.now.disk c.args.journal.now c.in_ok-text.text.items c.sent_complete.result c.send.result c.sent_complete.ensures
     c.in_ok-text.ensures.text

@@ -7,9 +7,9 @@ pub returns-then-not-is_empty-clause-text : goal.returns-then-not-is_empty-claus
 returns-then-not-is_empty-clause-text c =
     let journal = c.args.journal.now in
     let some = some_bytes journal c.is_empty.result c.is_empty.ensures c.if-not-is_empty.true in
-    log_told c.args.image.now.disk journal c.log_of.result some c.log_of.ensures.text
+    log_told c.args.form c.args.image.now.disk journal c.log_of.result some c.log_of.ensures.text
 
 pub returns-clause-text : goal.returns-clause-text
 returns-clause-text c =
-    empty_told c.args.image.now.disk c.args.journal.now c.new.result.items c.in_ok-mount.field-0 c.is_empty.result c.is_empty.ensures
+    empty_told c.args.form c.args.image.now.disk c.args.journal.now c.new.result.items c.in_ok-mount.field-0 c.is_empty.result c.is_empty.ensures
     c.if-not-is_empty.false c.new.ensures.items c.size-size.ensures.disk c.in_ok-mount.ensures.mounted

@@ -1,5 +1,5 @@
 -- What stands at a path of the outline stands there in the tree.
-use Rattle.std.proofs.Common.{◌≡◌, Bor, List, [], Some, ap, length, map, subst, sym, ◌∙◌}
+use Rattle.std.proofs.Common.{◌≡◌, Bor, List, [], Some, ap, length, subst, sym, ◌∙◌}
 use Rattle.std.specs.Vec.{vec_len}
 use Rattle.std.proofs.lemmas.List.{nil_from_length, length-map}
 use Rattle.std.proofs.lemmas.Bool.{eqb-true, eqb-false}
@@ -9,7 +9,7 @@ use Rattle.lfs_fs.specs.Path.{Path}
 use Rattle.lfs_fs.specs.Tree.{entry_at}
 use Rattle.lfs_draft.specs.Editable.{NamesRise}
 use Rattle.lfs_fs.specs.Volume.{Volume}
-use Rattle.lfs_law.specs.HomeChecks.{entry_checks}
+use Rattle.lfs_law.specs.ParentChecks.{entry_checks}
 use Rattle.lfs_listing.specs.Below.{names}
 use Rattle.lfs_meta.specs.Name.{Name}
 use Rattle.lfs_step.proofs.ContentsLemmas.{refused_listing, root_listed, there_listed}

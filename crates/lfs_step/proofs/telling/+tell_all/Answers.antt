@@ -5,9 +5,9 @@ use Rattle.lfs_block.specs.Disk.{erased_block}
 use Rattle.lfs_block.specs.Patch.{AgreesOld, applied, reverted}
 use Rattle.lfs_fs.specs.Mounted.{IsMountOf}
 use Rattle.lfs_history.proofs.MoveLemmas.{TakeBack}
-use Rattle.lfs_journal.specs.Opened.{RefusesMounts}
-use Rattle.lfs_journal.proofs.PlaceLemmas.{IsAt}
-use Rattle.lfs_journal.proofs.RoomLemmas.{each_at, room_same}
+use Rattle.lfs_session.specs.Opened.{RefusesMounts}
+use Rattle.lfs_session.proofs.PlaceLemmas.{IsAt}
+use Rattle.lfs_session.proofs.RoomLemmas.{each_at, room_same}
 use Rattle.lfs_step.specs.Between.{images_at, later_at}
 use Rattle.lfs_step.proofs.BetweenLemmas.{is_here, back_agrees, goes_back}
 use Rattle.lfs_step.proofs.TellingLemmas.{tells_first, tells_back, first_image_refused}
@@ -18,7 +18,7 @@ returns-then-at-eq0-clause-told t c =
     let d = c.args.image.now.disk in
     let m = c.in_ok-mounted.mounted in
     let mounts : IsMountOf d m = search rules in
-    on_ok_weaker c.tell_on.result (tells_first d m c.args.course.now.patches.now c.args.at c.args.course.now.done c.args.text.now.bytes.items
+    on_ok_weaker c.tell_on.result (tells_first c.args.course.now.form d m c.args.course.now.patches.now c.args.at c.args.course.now.done c.args.text.now.bytes.items
     c.tell_on.new.text.bytes.items c.if-at-eq0.true mounts) c.tell_on.ensures.told
 
 pub returns-then-at-eq0-clause-refused : goal.returns-then-at-eq0-clause-refused
@@ -112,7 +112,7 @@ returns-clause-told t c =
     let again = c.reverted_patches_apply_again.ensures in
     let law : TakeBack = record { disk = again.disk; agrees = again.agrees; again = again.again } in
     let to = goes_back law d c.revert.new.image.disk ps i j p at c.requires.between c.revert.ensures.reverted in
-    on_ok_weaker c.tell_all-told.result (tells_back d c.revert.new.image.disk ps i j c.args.course.now.done c.args.text.now.bytes.items
+    on_ok_weaker c.tell_all-told.result (tells_back c.args.course.now.form d c.revert.new.image.disk ps i j c.args.course.now.done c.args.text.now.bytes.items
     c.tell_all-told.new.text.bytes.items to.images) c.tell_all-told.ensures.told
 
 pub returns-clause-refused : goal.returns-clause-refused

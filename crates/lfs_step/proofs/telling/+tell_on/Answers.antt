@@ -7,9 +7,9 @@ use Rattle.lfs_block.specs.Patch.{ChangeSet, AgreesNew, applied, reverted}
 use Rattle.lfs_fs.specs.Mounted.{IsMountOf}
 use Rattle.lfs_history.specs.History.{future_of}
 use Rattle.lfs_history.proofs.MoveLemmas.{Make}
-use Rattle.lfs_journal.specs.Opened.{RefusesMount, RefusesMounts}
-use Rattle.lfs_journal.proofs.PlaceLemmas.{IsAt}
-use Rattle.lfs_journal.proofs.RoomLemmas.{each_at, room_same}
+use Rattle.lfs_session.specs.Opened.{RefusesMount, RefusesMounts}
+use Rattle.lfs_session.proofs.PlaceLemmas.{IsAt}
+use Rattle.lfs_session.proofs.RoomLemmas.{each_at, room_same}
 use Rattle.lfs_listing.specs.Difference.{difference}
 use Rattle.lfs_step.specs.Between.{later_at}
 use Rattle.lfs_step.specs.Log.{change_line}
@@ -21,7 +21,7 @@ pub returns-then-at-course-clause-told : goal.returns-then-at-course-clause-told
 returns-then-at-course-clause-told t c =
     let d = c.args.image.now.disk in
     let ps = c.args.course.now.patches.now in
-    tells_none d c.args.mounted.now ps c.args.at c.args.course.now.done c.args.text.now.bytes.items
+    tells_none c.args.course.now.form d c.args.mounted.now ps c.args.at c.args.course.now.done c.args.text.now.bytes.items
     (ap (λ (us : List ChangeSet). future_of us d) (drop_all c.args.at ps c.if-at-course.true))
 
 pub after-after-requires : goal.after-after-requires
@@ -132,10 +132,10 @@ returns-clause-told t c =
     let mid = c.tell_change.new.text.bytes.items in
     let same : c.after-after.result ≡ e = c.after-after.ensures ∙ sym c.apply.ensures.applied in
     let next : IsMountOf c.after-after.result k = c.in_ok-next.ensures.mounted in
-    let line : mid ≡ old ++ change_line (i + 1) done ++ difference d m.rows c.after-after.result k.rows = c.in_ok-tell_change.ensures.told in
-    let told : mid ≡ old ++ change_line (i + 1) done ++ difference d m.rows e k.rows =
-    line ∙ ap (λ (x : Disk). old ++ change_line (i + 1) done ++ difference d m.rows x k.rows) same in
-    on_ok_weaker c.tell_on-told.result (tells_next d e m k ps i (i + 1) done old mid c.tell_on-told.new.text.bytes.items refl to.later
+    let line : mid ≡ old ++ change_line c.args.course.now.form (i + 1) done ++ difference c.args.course.now.form d m.rows c.after-after.result k.rows = c.in_ok-tell_change.ensures.told in
+    let told : mid ≡ old ++ change_line c.args.course.now.form (i + 1) done ++ difference c.args.course.now.form d m.rows e k.rows =
+    line ∙ ap (λ (x : Disk). old ++ change_line c.args.course.now.form (i + 1) done ++ difference c.args.course.now.form d m.rows x k.rows) same in
+    on_ok_weaker c.tell_on-told.result (tells_next c.args.course.now.form d e m k ps i (i + 1) done old mid c.tell_on-told.new.text.bytes.items refl to.later
     (subst (λ (x : Disk). IsMountOf x k) same next) told) c.tell_on-told.ensures.told
 
 pub returns-clause-refused : goal.returns-clause-refused

@@ -11,8 +11,8 @@ use Rattle.lfs_survey.proofs.LoneLemmas.{none_left}
 use Rattle.lfs_survey.proofs.LookingLemmas.{grows_then}
 use Rattle.lfs_survey.proofs.lone.lone_areas.Goals as goal
 
-pub returns-clause-whole : goal.returns-clause-whole
-returns-clause-whole g c =
+pub returns-clause-complete : goal.returns-clause-complete
+returns-clause-complete g c =
     let d : Disk = g.B.Blocks.disk c.args.blocks.now in
     let after = c.areas_along-2.new.looked in
     let lone : c.deref-4.result.now ≡ lone_pairs d c.args.looked.now d.count = c.deref-4.ensures.value ∙ c.in_ok-lone.ensures.pairs in
@@ -24,35 +24,35 @@ returns-clause-whole g c =
 pub returns-in_err-named-clause-areas : goal.returns-in_err-named-clause-areas
 returns-in_err-named-clause-areas g c = rw (err_from_is_err_and c.from_residual.result c.from_residual.ensures.1).1 tt
 
-pub returns-in_err-named-clause-whole : goal.returns-in_err-named-clause-whole
-returns-in_err-named-clause-whole g c = rw (err_from_is_err_and c.from_residual.result c.from_residual.ensures.1).1 tt
+pub returns-in_err-named-clause-complete : goal.returns-in_err-named-clause-complete
+returns-in_err-named-clause-complete g c = rw (err_from_is_err_and c.from_residual.result c.from_residual.ensures.1).1 tt
 
 pub returns-in_err-lone-clause-areas : goal.returns-in_err-lone-clause-areas
 returns-in_err-lone-clause-areas g c = rw (err_from_is_err_and c.from_residual-in_err-lone.result c.from_residual-in_err-lone.ensures.1).1 tt
 
-pub returns-in_err-lone-clause-whole : goal.returns-in_err-lone-clause-whole
-returns-in_err-lone-clause-whole g c = rw (err_from_is_err_and c.from_residual-in_err-lone.result c.from_residual-in_err-lone.ensures.1).1 tt
+pub returns-in_err-lone-clause-complete : goal.returns-in_err-lone-clause-complete
+returns-in_err-lone-clause-complete g c = rw (err_from_is_err_and c.from_residual-in_err-lone.result c.from_residual-in_err-lone.ensures.1).1 tt
 
 pub returns-in_err-unnamed-clause-areas : goal.returns-in_err-unnamed-clause-areas
 returns-in_err-unnamed-clause-areas g c = rw (err_from_is_err_and c.from_residual-in_err-unnamed.result c.from_residual-in_err-unnamed.ensures.1).1 tt
 
-pub returns-in_err-unnamed-clause-whole : goal.returns-in_err-unnamed-clause-whole
-returns-in_err-unnamed-clause-whole g c = rw (err_from_is_err_and c.from_residual-in_err-unnamed.result c.from_residual-in_err-unnamed.ensures.1).1 tt
+pub returns-in_err-unnamed-clause-complete : goal.returns-in_err-unnamed-clause-complete
+returns-in_err-unnamed-clause-complete g c = rw (err_from_is_err_and c.from_residual-in_err-unnamed.result c.from_residual-in_err-unnamed.ensures.1).1 tt
 
 pub returns-in_err-areas-clause-areas : goal.returns-in_err-areas-clause-areas
 returns-in_err-areas-clause-areas g c = rw (err_from_is_err_and c.from_residual-in_err-areas.result c.from_residual-in_err-areas.ensures.1).1 tt
 
-pub returns-in_err-areas-clause-whole : goal.returns-in_err-areas-clause-whole
-returns-in_err-areas-clause-whole g c = rw (err_from_is_err_and c.from_residual-in_err-areas.result c.from_residual-in_err-areas.ensures.1).1 tt
+pub returns-in_err-areas-clause-complete : goal.returns-in_err-areas-clause-complete
+returns-in_err-areas-clause-complete g c = rw (err_from_is_err_and c.from_residual-in_err-areas.result c.from_residual-in_err-areas.ensures.1).1 tt
 
 pub returns-in_err-left-clause-areas : goal.returns-in_err-left-clause-areas
 returns-in_err-left-clause-areas g c = rw (err_from_is_err_and c.from_residual-in_err-left.result c.from_residual-in_err-left.ensures.1).1 tt
 
-pub returns-in_err-left-clause-whole : goal.returns-in_err-left-clause-whole
-returns-in_err-left-clause-whole g c = rw (err_from_is_err_and c.from_residual-in_err-left.result c.from_residual-in_err-left.ensures.1).1 tt
+pub returns-in_err-left-clause-complete : goal.returns-in_err-left-clause-complete
+returns-in_err-left-clause-complete g c = rw (err_from_is_err_and c.from_residual-in_err-left.result c.from_residual-in_err-left.ensures.1).1 tt
 
 pub returns-in_err-append-clause-areas : goal.returns-in_err-append-clause-areas
 returns-in_err-append-clause-areas g c = rw (err_from_is_err_and c.from_residual-in_err-append.result c.from_residual-in_err-append.ensures.1).1 tt
 
-pub returns-in_err-append-clause-whole : goal.returns-in_err-append-clause-whole
-returns-in_err-append-clause-whole g c = rw (err_from_is_err_and c.from_residual-in_err-append.result c.from_residual-in_err-append.ensures.1).1 tt
+pub returns-in_err-append-clause-complete : goal.returns-in_err-append-clause-complete
+returns-in_err-append-clause-complete g c = rw (err_from_is_err_and c.from_residual-in_err-append.result c.from_residual-in_err-append.ensures.1).1 tt

@@ -6,7 +6,7 @@ use Rattle.lfs_command.specs.PathMap.{below}
 use Rattle.lfs_sync.specs.Shown.{held_of}
 use Rattle.lfs_listing.specs.Below.{names}
 use Rattle.lfs_sync.specs.Sides.{HoldsMore}
-use Rattle.lfs_sync.proofs.HoldLemmas.{shown_now, whole_now}
+use Rattle.lfs_sync.proofs.HoldLemmas.{shown_now, complete_now}
 use Rattle.lfs_sync.proofs.holding.held_rows.Goals as goal
 
 pub loop-row-preserved : goal.loop-row-preserved
@@ -20,9 +20,9 @@ loop-row-preserved c =
       shown = λ d. shown_now at q now c.loop-row.row-iterator c.next.new.self c.in-Some.row c.loop-row.held.items c.in-Some.ensures.steps
           c.in_ok-follow_row.ensures d (held_of d at (rows_listed c.args.rows)) c.hold_row.new.held.items (below at now) refl holds
           (c.loop-row.invariant.shown d);
-      whole = λ d whole. whole_now at q now c.loop-row.row-iterator c.next.new.self c.in-Some.row c.loop-row.held.items
-          c.in-Some.ensures.steps c.in_ok-follow_row.ensures d c.hold_row.new.held.items (below at now) holds (c.loop-row.invariant.whole d whole);
+      complete = λ d complete. complete_now at q now c.loop-row.row-iterator c.next.new.self c.in-Some.row c.loop-row.held.items
+          c.in-Some.ensures.steps c.in_ok-follow_row.ensures d c.hold_row.new.held.items (below at now) holds (c.loop-row.invariant.complete d complete);
     }
 
-pub returns-clause-whole : goal.returns-clause-whole
-returns-clause-whole c d whole = (c.loop-row.invariant.whole d whole).0
+pub returns-clause-complete : goal.returns-clause-complete
+returns-clause-complete c d complete = (c.loop-row.invariant.complete d complete).0

@@ -5,8 +5,8 @@ use Rattle.lfs_meta.specs.Name.{Name}
 use Rattle.lfs_fs.specs.Listed.{rows_listed}
 use Rattle.lfs_fs.specs.Path.{Path}
 use Rattle.lfs_fs.specs.Row.{Row}
-use Rattle.lfs_listing.specs.Comparing.{AreWhole}
-use Rattle.lfs_listing.proofs.WholeLemmas.{rows_are_whole}
+use Rattle.lfs_listing.specs.Comparing.{AreComplete}
+use Rattle.lfs_listing.proofs.CompleteLemmas.{rows_are_complete}
 use Rattle.lfs_sync.specs.Planned.{in_texts, plan_asked}
 use Rattle.lfs_sync.specs.Shown.{Shown, ShownRise, held_of}
 use Rattle.lfs_listing.specs.Below.{names}
@@ -34,13 +34,13 @@ planned_of-requires-clause-rises g c =
     ap (λ (l : List WantedRow). wanted_all c.args.rows.now l) c.deref-4.ensures.value ∙ c.in_ok-wanted.ensures say.0 say.1 in
     subst (λ (l : List Shown). ShownRise l) (sym are) say.1.rise
 
-pub planned_of-requires-clause-whole : goal.planned_of-requires-clause-whole
-planned_of-requires-clause-whole g c =
+pub planned_of-requires-clause-complete : goal.planned_of-requires-clause-complete
+planned_of-requires-clause-complete g c =
     let d : Disk = g.B.Blocks.disk c.args.disk.now in
     subst (CanBeRead d) (sym c.deref-3.ensures.value)
-    (c.in_ok-held.ensures.whole d
-    (subst (λ (l : List Row). AreWhole d l) (sym c.rows.ensures)
-    (rows_are_whole c.rows_show_the_tree.ensures d c.args.mounted.now c.size-size.ensures.disk c.requires.mounted)))
+    (c.in_ok-held.ensures.complete d
+    (subst (λ (l : List Row). AreComplete d l) (sym c.rows.ensures)
+    (rows_are_complete c.rows_show_the_tree.ensures d c.args.mounted.now c.size-size.ensures.disk c.requires.mounted)))
 
 pub returns : goal.returns
 returns g c =

@@ -40,14 +40,14 @@ returns-clause-written c =
     omega (arith, reach) in
     let stored-is : stored ≡ bit_xor commit.closing (last_word c.args.prev ts) =
     c.encode.ensures ∙ ap (λ (w : ℕ). bit_xor w c.put_edits-place.result.1) closing ∙ ap (bit_xor commit.closing) last in
-    let whole : List ℕ = put_at at covered old in
+    let complete : List ℕ = put_at at covered old in
     let within : at ≤ length old = omega (arith, room) in
     let count : place + 4 - at ≡ length covered = omega (arith, len, length-append tags word) in
     let sum-is : sum ≡ crc 0xffffffff (lead_at at old ++ covered_bytes c.args.prev commit) =
     c.checksum_from-checksum.ensures
     ∙ ap (λ (b : List ℕ). crc 0xffffffff (lead_at at b ++ take (place + 4 - at) (drop at b))) puts.0
-    ∙ ap (λ (l : List ℕ). crc 0xffffffff (l ++ take (place + 4 - at) (drop at whole))) (lead_at-put_at at covered old c.requires.at within)
-    ∙ ap (λ (n : ℕ). crc 0xffffffff (lead_at at old ++ take n (drop at whole))) count
+    ∙ ap (λ (l : List ℕ). crc 0xffffffff (l ++ take (place + 4 - at) (drop at complete))) (lead_at-put_at at covered old c.requires.at within)
+    ∙ ap (λ (n : ℕ). crc 0xffffffff (lead_at at old ++ take n (drop at complete))) count
     ∙ ap (λ (x : List ℕ). crc 0xffffffff (lead_at at old ++ x)) (at-put_at at covered old within)
     ∙ ap (λ (w : ℕ). crc 0xffffffff (lead_at at old ++ (tags ++ to_be_bytes w32 w))) stored-is in
     let size-is : size ≡ committed_end at ts - (at + tags_len ts + 8) = omega (arith, reach) in

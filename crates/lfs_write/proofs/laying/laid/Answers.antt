@@ -11,10 +11,10 @@ pub returns : goal.returns
 returns g c =
     let d = g.B.Blocks.disk c.args.image.now in
     let bytes = c.args.bytes.now in
-    let laws = c.laid_blocks_are_whole.ensures in
+    let laws = c.laid_blocks_are_complete.ensures in
     let is : IsBytes bytes = search rules in
     let disk = c.size-size.ensures.disk in
-    let all = are_laid d bytes c.args.blocks.now laws.many laws.whole laws.bytes disk disk.geometry.size_fits is c.requires.rising
+    let all = are_laid d bytes c.args.blocks.now laws.many laws.complete laws.bytes disk disk.geometry.size_fits is c.requires.rising
     c.requires.below c.requires.many in
     let contents : map (λ (x : Vec ℕ Global). x.items) c.in_ok-contents.contents.items ≡ laid d.size bytes c.args.blocks.now =
     search rules in

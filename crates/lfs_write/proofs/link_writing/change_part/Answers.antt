@@ -1,6 +1,6 @@
 -- One block of the pair is changed.
 use Rattle.lfs_block.specs.Disk.{Disk}
-use Rattle.lfs_commit.specs.DifferenceSeen.{forced_seen}
+use Rattle.lfs_pair.specs.DifferenceSeen.{forced_seen}
 use Rattle.lfs_command.specs.PartWritten.{Found}
 use Rattle.lfs_law.proofs.BlockLemmas.{one_below}
 use Rattle.lfs_write.proofs.PairWrites.{block_is_one, one_free, pair_changed, pair_written}

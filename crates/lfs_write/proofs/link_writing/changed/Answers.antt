@@ -1,7 +1,7 @@
 -- The part is told by its view.
 use Rattle.std.proofs.lemmas.Result.{IfOk-weaker}
-use Rattle.lfs_commit.specs.Appending.{IsChanged}
-use Rattle.lfs_commit.specs.DifferenceSeen.{forced_seen}
+use Rattle.lfs_pair.specs.Appending.{IsChanged}
+use Rattle.lfs_pair.specs.DifferenceSeen.{forced_seen}
 use Rattle.lfs_write.proofs.PairWrites.{by_view}
 use Rattle.lfs_write.proofs.link_writing.changed.Goals as goal
 

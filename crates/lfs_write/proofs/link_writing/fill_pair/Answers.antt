@@ -4,7 +4,7 @@ use Rattle.std.specs.Prelude.{replicate}
 use Rattle.std.proofs.lemmas.Result.{err_from_is_err_and}
 use Rattle.lfs_meta.specs.Entry.{StoredEntry}
 use Rattle.lfs_meta.specs.Part.{StoredPart}
-use Rattle.lfs_commit.specs.Writing.{part_in, stored_part}
+use Rattle.lfs_pair.specs.Writing.{part_in, stored_part}
 use Rattle.lfs_command.specs.PartWritten.{Found}
 use Rattle.lfs_law.specs.WrittenLinks.{AddsPart, FillsFirst, IsFreeFor}
 use Rattle.lfs_write.proofs.PairWrites.{second_free, pair_filled, first_filled}

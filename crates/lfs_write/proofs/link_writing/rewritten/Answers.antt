@@ -1,6 +1,6 @@
 -- The part is told by its view.
 use Rattle.std.proofs.lemmas.Result.{IfOk-weaker}
-use Rattle.lfs_commit.specs.Writing.{IsRewritten}
+use Rattle.lfs_pair.specs.Writing.{IsRewritten}
 use Rattle.lfs_write.proofs.PairWrites.{by_view}
 use Rattle.lfs_write.proofs.link_writing.rewritten.Goals as goal
 

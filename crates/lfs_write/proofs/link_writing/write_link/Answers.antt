@@ -1,6 +1,6 @@
 -- The part's mark says whether the link is written.
 use Rattle.std.proofs.Common.{ap, sym, ◌∙◌}
-use Rattle.lfs_commit.specs.DifferenceSeen.{forced_seen}
+use Rattle.lfs_pair.specs.DifferenceSeen.{forced_seen}
 use Rattle.lfs_fs.specs.Directory.{Part}
 use Rattle.lfs_law.specs.PairWritten.{link_to}
 use Rattle.lfs_law.specs.PlansHold.{is_unmarked}

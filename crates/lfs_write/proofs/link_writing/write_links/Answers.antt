@@ -1,7 +1,7 @@
 -- One link more is written.
 use Rattle.std.proofs.Common.{◌≡◌, ◌+◌, List, [], ◌∷◌, drop, sym, subst, arith}
 use Rattle.std.proofs.Math.ListN.{drop_of_length-le}
-use Rattle.lfs_commit.specs.DifferenceSeen.{forced_seen}
+use Rattle.lfs_pair.specs.DifferenceSeen.{forced_seen}
 use Rattle.lfs_fs.specs.Thread.{Link}
 use Rattle.lfs_law.specs.PairWritten.{link_to}
 use Rattle.lfs_law.specs.PlansHold.{is_unmarked}
@@ -9,7 +9,7 @@ use Rattle.lfs_law.specs.SuperblockBytes.{volume_bytes}
 use Rattle.lfs_law.specs.WrittenLinks.{AreWritten, ChangesLinks}
 use Rattle.lfs_law.proofs.LinksAdded.{no_links_are_written}
 use Rattle.lfs_write.proofs.LinksOfOutlines.{one_left}
-use Rattle.lfs_write.proofs.LinksInTurn.{can_first, can_later, changed_whole, none_changed, written_whole}
+use Rattle.lfs_write.proofs.LinksInTurn.{can_first, can_later, changed_complete, none_changed, written_complete}
 use Rattle.lfs_write.proofs.link_writing.write_links.Goals as goal
 
 pub write_link-requires-clause-can : goal.write_link-requires-clause-can
@@ -35,13 +35,13 @@ loop-link-preserved g c =
     record {
       can = can_later d bytes attributes is_new c.loop-link.changes.items c.write_link.new.changes.items all _ later split
           c.loop-link.invariant.can c.in_ok-write_link.ensures.written;
-      whole = λ new written. c.loop-link.invariant.whole new
-          (written_whole d bytes attributes is_new c.loop-link.changes.items c.write_link.new.changes.items new all _ later split
+      complete = λ new written. c.loop-link.invariant.complete new
+          (written_complete d bytes attributes is_new c.loop-link.changes.items c.write_link.new.changes.items new all _ later split
           c.loop-link.invariant.can c.in_ok-write_link.ensures.written written);
       changed = λ new written changed. c.loop-link.invariant.changed new
-          (written_whole d bytes attributes is_new c.loop-link.changes.items c.write_link.new.changes.items new all _ later split
+          (written_complete d bytes attributes is_new c.loop-link.changes.items c.write_link.new.changes.items new all _ later split
           c.loop-link.invariant.can c.in_ok-write_link.ensures.written written)
-          (changed_whole d bytes attributes is_new (forced_seen c.args.forced) c.loop-link.changes.items c.write_link.new.changes.items new all _
+          (changed_complete d bytes attributes is_new (forced_seen c.args.forced) c.loop-link.changes.items c.write_link.new.changes.items new all _
           later split c.loop-link.invariant.can c.in_ok-write_link.ensures.written written c.in_ok-write_link.ensures.changed changed);
     }
 
@@ -55,7 +55,7 @@ returns-clause-written g c =
     let all = c.deref-link-items.result.now in
     let can = c.loop-link.invariant.can in
     let none : drop c.loop-link.link-index all ≡ [] = drop_of_length-le all (omega (arith, c.loop-link-test.false)) in
-    c.loop-link.invariant.whole cs (subst (λ (ls : List Link). AreWritten d bytes attributes is_new cs ls cs) (sym none)
+    c.loop-link.invariant.complete cs (subst (λ (ls : List Link). AreWritten d bytes attributes is_new cs ls cs) (sym none)
     (no_links_are_written d bytes attributes is_new cs can.rising can.made))
 
 pub returns-clause-changed : goal.returns-clause-changed

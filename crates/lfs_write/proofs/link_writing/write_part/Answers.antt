@@ -2,7 +2,7 @@
 use Rattle.std.proofs.Common.{◌≡◌, true, Bool, ap, sym, ◌∙◌, subst, true≢false}
 use Rattle.std.proofs.lemmas.Result.{err_from_is_err_and}
 use Rattle.lfs_meta.specs.Body.{Pair}
-use Rattle.lfs_commit.specs.DifferenceSeen.{forced_seen}
+use Rattle.lfs_pair.specs.DifferenceSeen.{forced_seen}
 use Rattle.lfs_fs.specs.Directory.{Part}
 use Rattle.lfs_law.specs.PairWritten.{link_to}
 use Rattle.lfs_law.specs.PlansHold.{is_unmarked}

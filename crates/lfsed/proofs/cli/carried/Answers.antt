@@ -3,7 +3,7 @@
 use Rattle.std.proofs.Common.{rules, ◌∙◌, Some, ap, inl, inr, sym, subst}
 use Rattle.clap.specs.Words.{Text, subcommand_rows_of}
 use Rattle.lfs_host.specs.Scene.{KeepsAll, Scene}
-use Rattle.lfsed.proofs.MisuseLemmas.{not_for_memory}
+use Rattle.lfsed.proofs.UsageErrorLemmas.{not_for_memory}
 use Rattle.lfsed.proofs.cli.carried.Goals as goal
 
 pub returns-in-Some : goal.returns-in-Some
@@ -24,7 +24,7 @@ returns-in-Err g c =
     let named = subcommand_rows_of c.args.matches.now in
     let old : Scene = g.H.Known.known c.args.host.now in
     let looked : Scene = g.H.Known.known c.stated_for.new.host in
-    let new : Scene = g.H.Known.known c.misused.new.host in
+    let new : Scene = g.H.Known.known c.used_wrongly.new.host in
     let stated = c.in_ok-stated.stated in
     elim c.in-Err.ensures.refused [
       | inl unsaid ↦
@@ -36,9 +36,9 @@ returns-in-Err g c =
                 absurd (c.in_default.ensures.none (search rules) (rows, is ∙ ap (λ (n : Text). Some (n, rows)) explains))
           ]
       | inr (inl memory) ↦
-          let told = c.misused.ensures.memory memory in
+          let told = c.used_wrongly.ensures.memory memory in
           record { ended = inr (inr (inl (subst (KeepsAll old) (sym told.0) c.stated_for.ensures.kept, told.1))) }
       | inr (inr missaid) ↦
-          let told = c.misused.ensures.told (not_for_memory named stated c.in-Err.misuse missaid) in
-          record { ended = inr (inl (stated, looked, c.in_ok-stated.ensures.stated, inr (c.in-Err.misuse, missaid, told))) }
+          let told = c.used_wrongly.ensures.told (not_for_memory named stated c.in-Err.usage_error missaid) in
+          record { ended = inr (inl (stated, looked, c.in_ok-stated.ensures.stated, inr (c.in-Err.usage_error, missaid, told))) }
     ]

@@ -1,6 +1,6 @@
 -- The image's file is looked at before the other one.
 use Rattle.clap.specs.Words.{subcommand_rows_of}
-use Rattle.lfs_words.specs.Words.{SaysAutoImage, SaysAutoOther}
+use Rattle.lfs_arguments.specs.Words.{SaysAutoImage, SaysAutoOther}
 use Rattle.lfsed.proofs.ReadLemmas.{looks}
 use Rattle.lfsed.proofs.cli.stated_for.Goals as goal
 

@@ -30,7 +30,7 @@ write_block-requires c =
     next-writes c.args.self.now.changes c.loop-record.record-index _ c.record-item.result c.deref.result.now
     (resized c.args.self.now.after c.args.image.now.disk) c.loop-record.image.disk c.loop-record.invariant.made
     at c.record.view_is c.deref.ensures.value in
-    record { within = writes.0; whole = writes.1 }
+    record { within = writes.0; complete = writes.1 }
 
 pub loop-record-preserved : goal.loop-record-preserved
 loop-record-preserved c =

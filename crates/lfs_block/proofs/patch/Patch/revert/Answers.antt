@@ -27,7 +27,7 @@ write_block-requires c =
     (flip c.record-item.result) c.deref.result.now c.args.image.now.disk c.loop-record.image.disk c.loop-record.invariant.made
     (at-flipped c.args.self.now.changes c.loop-record.record-index c.record-item.result at)
     (ap flip c.record.view_is) c.deref.ensures.value in
-    record { within = writes.0; whole = writes.1 }
+    record { within = writes.0; complete = writes.1 }
 
 pub loop-record-preserved : goal.loop-record-preserved
 loop-record-preserved c =

@@ -20,7 +20,7 @@ slice_bounds-slice-end g c =
     let few : pointers c.self.inside.number ≤ 33 = pointers_few c.self.inside.number in
     let below : c.in-Some.field-0-0.now < d.count = (All-same (λ b. b < d.count) _ _ (sym c.in-Some.ensures.cases.0) c.self.invariant.0) 0 0
     (omega arith) in
-    let whole : length (block_of d c.in-Some.field-0-0.now) ≡ d.size = length-block d c.in-Some.field-0-0.now c.size.ensures.disk below in
+    let complete : length (block_of d c.in-Some.field-0-0.now) ≡ d.size = length-block d c.in-Some.field-0-0.now c.size.ensures.disk below in
     let here : length c.block.result.now ≡ length (block_of d c.in-Some.field-0-0.now) = ap length c.block.ensures in
     omega arith
 
@@ -37,11 +37,11 @@ returns-clause-steps g c =
     let d = g.B.Blocks.disk c.self.inside.disk.now in
     let below : c.in-Some.field-0-0.now < d.count = (All-same (λ b. b < d.count) _ _ (sym c.in-Some.ensures.cases.0) c.self.invariant.0) 0 0
     (omega arith) in
-    let whole : length (block_of d c.in-Some.field-0-0.now) ≡ d.size = length-block d c.in-Some.field-0-0.now c.size.ensures.disk below in
+    let complete : length (block_of d c.in-Some.field-0-0.now) ≡ d.size = length-block d c.in-Some.field-0-0.now c.size.ensures.disk below in
     sym c.self.view_is ∙ slices-step d c.self.inside.number c.self.inside.left (4 * c.pointers_of.result) c.size.result
     (c.size.result - 4 * c.pointers_of.result) (4 * c.pointers_of.result + c.min.result - 4 * c.pointers_of.result)
     c.saturating_sub-self-inside.result c.self.inside.chain.now c.in-Some.field-0-0.now c.in-Some.later.now c.block.result.now
-    c.in-Some.ensures.cases.0 c.block.ensures (whole ∙ sym c.size.ensures.value) (ap (λ n. 4 * n) c.pointers_of.ensures) refl
+    c.in-Some.ensures.cases.0 c.block.ensures (complete ∙ sym c.size.ensures.value) (ap (λ n. 4 * n) c.pointers_of.ensures) refl
     (omega arith) c.saturating_sub-self-inside.ensures
 
 pub returns-clause-goes : goal.returns-clause-goes

@@ -15,5 +15,5 @@ returns-clause-on c =
     let as_many : length c.deref.result.now ≡ c.len.result = search rules in
     let many : length names ≡ c.len.result = length-map c.deref.result.now (λ n. n.now) ∙ as_many in
     let all : c.reach-reached.result ≡ length names = omega (arith, many, c.reach-reached.ensures.within, c.if-reached-len.false) in
-    let whole = subst (λ (n : ℕ). Reaches v names n) all c.reach-reached.ensures in
-    rw c.in-Some.is (inr (refl, (names, spelled, whole), (others, target_spelled, c.reach.ensures)))
+    let complete = subst (λ (n : ℕ). Reaches v names n) all c.reach-reached.ensures in
+    rw c.in-Some.is (inr (refl, (names, spelled, complete), (others, target_spelled, c.reach.ensures)))

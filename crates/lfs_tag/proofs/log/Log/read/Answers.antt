@@ -27,9 +27,9 @@ bytes c i = omega (arith, c.type_inv.block i)
 
 done : (c : goal.After-is_erased) → IsRead (log_of c.args.block.now) c.loop-commit.commits c.loop-commit.last c.loop-commit.rest.now
 done c =
-    let whole = block_read c.args.block.now c.split_at.result.0.now c.split_at.result.1.now c.crc32-sum.result c.crc32-sum.ensures
+    let complete = block_read c.args.block.now c.split_at.result.0.now c.split_at.result.1.now c.crc32-sum.result c.crc32-sum.ensures
     c.split_at.ensures.front c.split_at.ensures.back in
-    subst (λ (f : Front). IsRead f c.loop-commit.commits c.loop-commit.last c.loop-commit.rest.now) whole
+    subst (λ (f : Front). IsRead f c.loop-commit.commits c.loop-commit.last c.loop-commit.rest.now) complete
     (ReadLoop-last _ _ c.loop-commit.commits c.loop-commit.sum c.loop-commit.last c.loop-commit.rest.now c.loop-commit.invariant
     c.in_default.ensures)
 

@@ -1,0 +1,17 @@
+//! What the words of the program's command line ask for.
+#![tactic(auto)]
+
+mod auto_file;
+mod auto_sizes;
+mod counting;
+mod matching;
+mod options;
+mod spelling;
+mod tasks;
+mod usage_error;
+mod viewing;
+
+pub use auto_file::AutoFile;
+pub use auto_sizes::AutoSizes;
+pub use matching::{auto_image, auto_other, faults_asked, flash_asked, request_said};
+pub use usage_error::{UsageError, Ways};

@@ -1,5 +1,0 @@
-use Rattle.lfs_book.proofs.Books.{books_once}
-use Rattle.lfs_book.proofs.laws.books_are_read_once.Goals as goal
-
-pub returns : goal.returns
-returns c = books_once

@@ -1,5 +1,0 @@
-pub mod Book
-pub mod Reading
-pub mod Faults
-pub mod Laws
-pub mod HeadSeen

@@ -1,5 +1,0 @@
-use Rattle.lfs_commit.proofs.DifferenceLemmas.{parts-become}
-use Rattle.lfs_commit.proofs.laws.parts_become_others.Goals as goal
-
-pub returns : goal.returns
-returns c = parts-become

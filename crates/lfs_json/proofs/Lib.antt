@@ -1,0 +1,9 @@
+pub mod AddingLemmas
+pub mod ShownLemmas
+pub mod TextLemmas
+pub mod MemberTexts
+pub mod PathLemmas
+pub mod AttributeLemmas
+pub mod RecordTextLemmas
+pub mod BlockLemmas
+pub mod RowExamples

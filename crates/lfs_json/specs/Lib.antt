@@ -1,0 +1,9 @@
+pub mod Object
+pub mod Line
+pub mod Written
+pub mod Texts
+pub mod Rows
+pub mod RecordTexts
+pub mod Summary
+pub mod Blocks
+pub mod Steps

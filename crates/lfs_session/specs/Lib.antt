@@ -1,0 +1,4 @@
+pub mod Known
+pub mod Opened
+pub mod Beside
+pub mod Joining

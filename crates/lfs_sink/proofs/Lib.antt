@@ -1,2 +1,0 @@
-pub mod SendLemmas
-pub mod WaitingLemmas
