@@ -4,7 +4,7 @@ use Rattle.std.specs.Option.{option_map_or, unwrap_or}
 use Rattle.std.specs.Prelude.{is_some}
 use Rattle.clap.specs.Words.{Row, Text}
 use Rattle.lfs_arguments.specs.declared.auto_file.AutoFile.{AutoFile}
-use Rattle.lfs_arguments.specs.Words.{BeginsAt, HasNone, HasText, SaysAuto, SaysAutoOther, SaysAutoSource, SaysPlace, other_block}
+use Rattle.lfs_arguments.specs.Words.{BeginsAt, HasNoText, HasText, SaysAuto, SaysAutoOther, SaysAutoSource, SaysPlace, other_block}
 
 -- they are those of the command that is named
 pub auto_rows : (option id : Text) (named : Option (Text × List Row)) (name : Text) (rows : List Row) (file : Text)
@@ -37,5 +37,5 @@ no_other named file compared made (inr says) = made says
 pub of_its_own : (rows : List Row) (text : Text) → HasText rows (codes "from-block") text → other_block rows ≡ codes "from-block"
 of_its_own rows text has = ap (λ (o : Option Text). cond (is_some o) (codes "from-block") (codes "block")) has
 
-pub of_the_image : (rows : List Row) → HasNone rows (codes "from-block") → other_block rows ≡ codes "block"
+pub of_the_image : (rows : List Row) → HasNoText rows (codes "from-block") → other_block rows ≡ codes "block"
 of_the_image rows none = ap (λ (o : Option Text). cond (is_some o) (codes "from-block") (codes "block")) none

@@ -6,7 +6,7 @@ use Rattle.std.specs.Str.{bytes_eq}
 use Rattle.std.proofs.lemmas.Slice.Eq.{bytes_eq-Decides}
 use Rattle.clap.specs.Words.{Row, Shape, Text}
 use Rattle.lfs_grammar.proofs.Lists.{Each, contained, each_in}
-use Rattle.lfs_grammar.specs.Grammar.{NamesCommand, TakesNoImage, commands, is_change}
+use Rattle.lfs_grammar.specs.Grammar.{NamesCommand, TakesNoImage, program_commands, is_change}
 use Rattle.lfs_arguments.specs.Words.{IsNoPast, IsNoTreeCommand, is_command, is_flagged, is_of_tree, is_other, is_question}
 
 -- a command that isn't asked, and changes no tree
@@ -19,14 +19,14 @@ is_task name =
 abbrev is_known : Text → Bool
 is_known name = is_task name || (is_question name || is_other name)
 
-all_known : Each (λ (c : Shape). is_known c.name ≡ true) commands
+all_known : Each (λ (c : Shape). is_known c.name ≡ true) program_commands
 all_known = search rules
 
 known : (name : Text) (rows : List Row) → NamesCommand (Some (name, rows)) → is_known name ≡ true
 known name rows names =
     let same : names.command.name ≡ name = ap (λ (o : Option (Text × List Row)). option_map_or (λ p. p.0) o []) (sym names.is) in
     ap is_known (sym same)
-    ∙ each_in (λ (c : Shape). is_known c.name ≡ true) commands names.command all_known (contained commands names.command names.here)
+    ∙ each_in (λ (c : Shape). is_known c.name ≡ true) program_commands names.command all_known (contained program_commands names.command names.here)
 
 other_by : (a b : Bool) → a || b ≡ true → a ≡ false → b ≡ true
 other_by true b is none = absurd (let bad : true ≡ false = none in cc)

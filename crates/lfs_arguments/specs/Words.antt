@@ -56,8 +56,8 @@ HasNumber rows id number =
 abbrev pub HasSome : List Row → Text → Type 0
 HasSome rows id = (text : Text) × HasText rows id text
 
-abbrev pub HasNone : List Row → Text → Type 0
-HasNone rows id = first_of id rows ≡ None
+abbrev pub HasNoText : List Row → Text → Type 0
+HasNoText rows id = first_of id rows ≡ None
 
 -- an option without a value is said
 abbrev pub is_flagged : Text → List Row → Bool
@@ -83,14 +83,14 @@ HasOtherBlock rows stated size = HasBlock rows (other_block rows) stated size
 -- how many blocks of this size are said: as a number, or as the size of the image in its place
 abbrev pub SaysCount : List Row → ℕ → ℕ → Type 0
 SaysCount rows block count =
-    (HasNumber rows (codes "count") count × HasNone rows (codes "size"))
-    ⊎ (HasNone rows (codes "count") × ((text : Text) × HasText rows (codes "size") text × SaysBlocks text block count))
+    (HasNumber rows (codes "count") count × HasNoText rows (codes "size"))
+    ⊎ (HasNoText rows (codes "count") × ((text : Text) × HasText rows (codes "size") text × SaysBlocks text block count))
 
 -- the same of a packed image, which may get the least number in place of either
 abbrev pub SaysExtent : List Row → ℕ → Extent → Type 0
 SaysExtent rows block (Count count) = (is_flagged (codes "least") rows ≡ false) × SaysCount rows block count
 SaysExtent rows block Least =
-    (is_flagged (codes "least") rows ≡ true) × HasNone rows (codes "count") × HasNone rows (codes "size")
+    (is_flagged (codes "least") rows ≡ true) × HasNoText rows (codes "count") × HasNoText rows (codes "size")
 
 -- it is said in some way
 abbrev pub is_extent_said : List Row → Bool
@@ -103,8 +103,8 @@ SaysExtentIfSaid rows block (Some extent) = SaysExtent rows block extent
 SaysExtentIfSaid rows block None = is_extent_said rows ≡ false
 
 -- the limits of a new image
-abbrev pub SaysLimits : List Row → Limits → Type 0
-SaysLimits rows limits =
+abbrev pub SaysNewLimits : List Row → Limits → Type 0
+SaysNewLimits rows limits =
     HasNumber rows (codes "name-max") limits.name
     × HasNumber rows (codes "file-max") limits.file
     × HasNumber rows (codes "attr-max") limits.attribute
@@ -123,7 +123,7 @@ SaysPlace rows place = (text : Text) × HasText rows (codes "offset") text × Sa
 -- the same, where it is said
 abbrev pub SaysPlaceIfSaid : List Row → Option ℕ → Type 0
 SaysPlaceIfSaid rows (Some place) = SaysPlace rows place
-SaysPlaceIfSaid rows None = HasNone rows (codes "offset")
+SaysPlaceIfSaid rows None = HasNoText rows (codes "offset")
 
 -- how an image is looked at
 abbrev pub IsView : View → List Row → Type 0
@@ -140,7 +140,7 @@ IsSource source rows other = HasText rows (codes "source") source.file.now × (s
 -- where the contents of a file that is put come from: a file of the host, or standard input where none is said
 abbrev pub HasContents : List Row → Source → Type 0
 HasContents rows (File name) = HasText rows (codes "contents") name.now
-HasContents rows Input = HasNone rows (codes "contents")
+HasContents rows Input = HasNoText rows (codes "contents")
 HasContents rows (Said bytes) = ⊥
 
 -- the byte, or the bytes, whose hexadecimal digits an option's text is
@@ -177,7 +177,7 @@ is_of_tree name rows =
 
 -- the path that an option's text is, or that of the root where none is said
 abbrev pub HasPathOrRoot : List Row → Text → Type 0
-HasPathOrRoot rows path = HasText rows (codes "path") path ⊎ (HasNone rows (codes "path") × (path ≡ codes "/"))
+HasPathOrRoot rows path = HasText rows (codes "path") path ⊎ (HasNoText rows (codes "path") × (path ≡ codes "/"))
 
 -- the change of a whole tree that a name and its options say
 abbrev pub IsTreeChange : TreeChange Source (Bor (List ℕ)) → Text → List Row → Type 0
@@ -187,8 +187,8 @@ IsTreeChange (tree.Put path source) name rows = (name ≡ codes "put") × HasTex
 IsTreeChange (tree.Sync path dir) name rows = (name ≡ codes "sync") × HasPathOrRoot rows path.now × HasText rows (codes "dir") dir.now
 
 -- how many images of the past are kept behind a command: as many as are said, or all where no number is
-abbrev pub IsKept : Option ℕ → List Row → Type 0
-IsKept number rows = HasNumberIfSaid rows keep number
+abbrev pub IsKeepSaid : Option ℕ → List Row → Type 0
+IsKeepSaid number rows = HasNumberIfSaid rows keep number
 
 -- the query that a name and its options say, where another image has blocks of this size
 abbrev pub IsQuery : Query (Bor (List ℕ)) → Text → List Row → ℕ → Type 0
@@ -202,30 +202,30 @@ IsQuery (Diff name_of_other size quiet) name rows other =
 IsQuery Log name rows other = name ≡ codes "log"
 
 -- the form of what is answered
-abbrev pub form_of : List Row → Form
-form_of rows = if is_flagged (codes "json") rows then form.Json else form.Text
+abbrev pub form_said : List Row → Form
+form_said rows = if is_flagged (codes "json") rows then form.Json else form.Text
 
 -- the task that a name and its options ask for on an image of this block size, where another image has blocks of the second one
 abbrev pub IsTask : Task → Text → List Row → ℕ → ℕ → Type 0
-IsTask (Format count limits) name rows block other = (name ≡ codes "format") × SaysCount rows block count × SaysLimits rows limits
+IsTask (Format count limits) name rows block other = (name ≡ codes "format") × SaysCount rows block count × SaysNewLimits rows limits
 IsTask (Pack extent limits dir) name rows block other =
-    (name ≡ codes "pack") × SaysExtent rows block extent × SaysLimits rows limits × HasText rows (codes "dir") dir.now
+    (name ≡ codes "pack") × SaysExtent rows block extent × SaysNewLimits rows limits × HasText rows (codes "dir") dir.now
 IsTask (Repack source extent limits) name rows block other =
     (name ≡ codes "repack") × IsSource source rows other × SaysExtentIfSaid rows block extent × SaysLimitsIfSaid rows limits
 IsTask (Extract dir path view) name rows block other =
     (name ≡ codes "extract") × HasText rows (codes "dir") dir.now × HasPathOrRoot rows path.now × IsView view rows
 IsTask (Salvage dir view) name rows block other = (name ≡ codes "salvage") × HasText rows (codes "dir") dir.now × IsView view rows
-IsTask (Ask query said view) name rows block other = IsQuery query name rows other × (said ≡ form_of rows) × IsView view rows
+IsTask (Ask query said view) name rows block other = IsQuery query name rows other × (said ≡ form_said rows) × IsView view rows
 IsTask task.Forget name rows block other = name ≡ codes "forget"
 IsTask (Change (Do command kept)) name rows block other =
-    (is_of_tree name rows ≡ false) × IsCommand command name rows block × IsKept kept rows
-IsTask (Tree change kept) name rows block other = (is_of_tree name rows ≡ true) × IsTreeChange change name rows × IsKept kept rows
+    (is_of_tree name rows ≡ false) × IsCommand command name rows block × IsKeepSaid kept rows
+IsTask (Tree change kept) name rows block other = (is_of_tree name rows ≡ true) × IsTreeChange change name rows × IsKeepSaid kept rows
 IsTask (Change (Undo steps)) name rows block other = (name ≡ codes "undo") × HasNumber rows (codes "steps") steps
 IsTask (Change (Redo steps)) name rows block other = (name ≡ codes "redo") × HasNumber rows (codes "steps") steps
 IsTask (Change move.Forget) name rows block other = ⊥
 IsTask (Change (Together commands kept)) name rows block other = ⊥
 IsTask (Batch file kept one) name rows block other =
-    (name ≡ codes "batch") × (option_map (λ f. f.now) file ≡ first_of (codes "script") rows) × IsKept kept rows
+    (name ≡ codes "batch") × (option_map (λ f. f.now) file ≡ first_of (codes "script") rows) × IsKeepSaid kept rows
     × (one ≡ is_flagged (codes "one") rows)
 
 -- the request that a command and its options ask for, where `auto` stands for these block sizes
@@ -324,10 +324,10 @@ IsBlockUsageError _ rows said stated = ⊥
 
 -- why there is no number of blocks of this size: it is said in no way, in two ways, or the size of the image says none
 abbrev pub IsCountUsageError : UsageError → List Row → ℕ → Type 0
-IsCountUsageError (NoCount ways) rows block = HasNone rows (codes "count") × HasNone rows (codes "size")
+IsCountUsageError (NoCount ways) rows block = HasNoText rows (codes "count") × HasNoText rows (codes "size")
 IsCountUsageError (TwoCounts ways one other) rows block = HasSome rows (codes "count") × HasSome rows (codes "size")
 IsCountUsageError (Size text fault) rows block =
-    HasNone rows (codes "count") × HasText rows (codes "size") text.now × IsSizeFault fault text.now block
+    HasNoText rows (codes "count") × HasText rows (codes "size") text.now × IsSizeFault fault text.now block
 IsCountUsageError _ rows block = ⊥
 
 -- two ways are said

@@ -8,7 +8,7 @@ ghost use Rattle.lfs_grammar.specs.Grammar.{file_max_or_source, name_max, name_m
 ghost use Rattle.lfs_request.specs.SaidLimits.{AreSaidInRange};
 ghost use Rattle.lfs_texts.specs.Sizes.{SaysBlock};
 ghost use Rattle.lfs_arguments.specs.Words.{HasBlock, HasOtherBlock, HasText, IsBlockUsageError, IsCountUsageError, IsExtentUsageError, IsTwice, SaysCount};
-ghost use Rattle.lfs_arguments.specs.Words.{SaysExtent, SaysExtentIfSaid, SaysLimits, SaysLimitsIfSaid, is_extent_said, other_block};
+ghost use Rattle.lfs_arguments.specs.Words.{SaysExtent, SaysExtentIfSaid, SaysNewLimits, SaysLimitsIfSaid, is_extent_said, other_block};
 ghost use Rattle.lfs_arguments.specs.declared.usage_error.UsageError.TheVariants.{Unsaid};
 
 use crate::options::{has_text, number, number_if_said, said, text};
@@ -147,7 +147,7 @@ pub(crate) fn extent_if_said<'a>(
 
 /// The limits that the words say.
 pub(crate) fn limits_of<'a>(options: &ArgMatches<'a>) -> Result<Limits, UsageError<'a>>
-    ensures limits { IfOk result (λ limits. SaysLimits (rows_of (found_of options.now)) limits) }
+    ensures limits { IfOk result (λ limits. SaysNewLimits (rows_of (found_of options.now)) limits) }
     ensures within { IfOk result (λ limits. IsSaid name_max (rows_of (found_of options.now))
         → IsSaid file_max (rows_of (found_of options.now)) → IsSaid attr_max (rows_of (found_of options.now)) → IsLimits limits) }
     ensures unsaid { IfErr result (λ usage_error. (usage_error ≡ Unsaid) × (IsSaid name_max (rows_of (found_of options.now))

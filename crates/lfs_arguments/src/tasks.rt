@@ -5,8 +5,8 @@ ghost use Rattle.clap.specs.Words.{Text, found_of, rows_of};
 ghost use Rattle.lfs_grammar.specs.Grammar.{NamesCommand, TakesNoImage, is_change};
 ghost use Rattle.lfs_history.specs.Taking.{MayKeep};
 ghost use Rattle.lfs_request.specs.Task.{IsTaskInRange};
-ghost use Rattle.lfs_arguments.specs.Words.{HasContents, IsCommand, IsCommandUsageError, IsKept, IsManner, IsOffsetUsageError, IsQuery, IsSizeUsageError, IsTask, IsView, is_command};
-ghost use Rattle.lfs_arguments.specs.Words.{HasPathOrRoot, IsNoPast, IsNoTreeCommand, IsNoViewing, IsTreeChange, form_of, is_of_tree, is_other, is_question};
+ghost use Rattle.lfs_arguments.specs.Words.{HasContents, IsCommand, IsCommandUsageError, IsKeepSaid, IsManner, IsOffsetUsageError, IsQuery, IsSizeUsageError, IsTask, IsView, is_command};
+ghost use Rattle.lfs_arguments.specs.Words.{HasPathOrRoot, IsNoPast, IsNoTreeCommand, IsNoViewing, IsTreeChange, form_said, is_of_tree, is_other, is_question};
 ghost use Rattle.lfs_arguments.specs.declared.usage_error.UsageError.TheVariants.{Memory, Unsaid};
 
 use crate::counting::{count_of, extent_if_said, extent_of, limits_if_said, limits_of};
@@ -55,7 +55,7 @@ fn question_of<'a>(
 
 /// The form of what is answered.
 fn form_of(options: &ArgMatches<'_>) -> Form
-    ensures { result ≡ form_of (rows_of (found_of options.now)) }
+    ensures { result ≡ form_said (rows_of (found_of options.now)) }
 {
     if said(options, "json") {
         Form::Json
@@ -201,7 +201,7 @@ fn tree_change_of<'a>(
 
 /// How many images of the past are kept behind a command; all of them for `None`.
 fn keep_of(options: &ArgMatches<'_>) -> Option<u32>
-    ensures kept { IsKept result (rows_of (found_of options.now)) }
+    ensures kept { IsKeepSaid result (rows_of (found_of options.now)) }
     ensures within { (name : Text) → is_change name ≡ true → NamesCommand (Some (name, rows_of (found_of options.now))) → MayKeep result }
 {
     number_if_said(options, "keep")

@@ -7,9 +7,9 @@ use Rattle.lfs_block.specs.declared.side.Side.{Side}
 use Rattle.lfs_block.specs.declared.side.Side.TheVariants.{Old, New}
 
 -- the disk on one side of a patch that lies on it
-abbrev pub laid : Side → ChangeSet → Disk → Disk
-laid Old p d = reverted p d
-laid New p d = applied p d
+abbrev pub laid_side : Side → ChangeSet → Disk → Disk
+laid_side Old p d = reverted p d
+laid_side New p d = applied p d
 
 -- how many blocks it has there
 abbrev pub count_of : Side → ChangeSet → ℕ

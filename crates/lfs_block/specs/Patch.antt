@@ -38,12 +38,12 @@ abbrev pub flipped : ChangeSet → ChangeSet
 flipped p = record { size = p.size; before = p.after; after = p.before; changes = map flip p.changes }
 
 -- these bytes are a block of the image
-abbrev pub StandsAt : Disk → ℕ → List ℕ → Type 0
-StandsAt d n bytes = (n < d.count) × (block_of d n ≡ bytes)
+abbrev pub IsBlockAt : Disk → ℕ → List ℕ → Type 0
+IsBlockAt d n bytes = (n < d.count) × (block_of d n ≡ bytes)
 
 -- what a change of a block of the image finds before it is made is there
 abbrev pub Stands : Disk → Change → Type 0
-Stands d c = StandsAt d c.number c.old
+Stands d c = IsBlockAt d c.number c.old
 
 -- the same of a block that may lie behind the image's end
 abbrev pub AgreesAt : Disk → Change → Type 0

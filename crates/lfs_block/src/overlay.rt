@@ -19,11 +19,11 @@ pub struct Overlay<'a, B: Blocks> {
 
 impl<'a, B: Blocks> Model for Overlay<'a, B> {
     ghost use Rattle.lfs_block.specs.Disk.{Disk};
-    ghost use Rattle.lfs_block.specs.Overlay.{IsOverlay, laid};
+    ghost use Rattle.lfs_block.specs.Overlay.{IsOverlay, laid_side};
 
     ghost Value = { Disk };
 
-    ghost view = { λ o. laid o.side o.patch.now (B.disk o.base.now) };
+    ghost view = { λ o. laid_side o.side o.patch.now (B.disk o.base.now) };
 
     ghost invariant = { λ o. IsOverlay o.patch.now o.erased.now (B.disk o.base.now) };
 }

@@ -17,7 +17,7 @@ use Rattle.lfs_cut.specs.Chosen.{PairRow}
 use Rattle.lfs_cut.specs.CutParts.{directory_by}
 use Rattle.lfs_cut.specs.Front.{IsCleanFrom}
 use Rattle.lfs_cut.specs.Overflow.{overflow_of, overflows_of}
-use Rattle.lfs_cut.specs.SetParts.{has_too_large_by, is_set_too_large, set_blocks, set_blocks_of}
+use Rattle.lfs_cut.specs.SetParts.{has_too_large_by, is_set_too_large, blocks_set, set_blocks_of}
 use Rattle.lfs_cut.proofs.CutPartLemmas.{none_set}
 
 -- parts that aren't set
@@ -89,7 +89,7 @@ sum_in_front f only (suc n) (d ∷ ds) clean = omega (
 
 pub blocks_in_front : (bytes superblock n : ℕ) (ds : List Directory) → IsCleanFrom n ds
     → sum_by (set_blocks_of bytes superblock) (take n ds) ≡ sum_by (set_blocks_of bytes superblock) ds
-blocks_in_front bytes superblock n ds clean = sum_in_front (set_blocks bytes superblock) (λ p unset. rw unset refl) n ds clean
+blocks_in_front bytes superblock n ds clean = sum_in_front (blocks_set bytes superblock) (λ p unset. rw unset refl) n ds clean
 
 -- ---- parts that overflow
 

@@ -11,7 +11,7 @@ use Rattle.lfs_fs.specs.Volume.{Volume}
 use Rattle.lfs_command.specs.Cut.{room}
 use Rattle.lfs_command.specs.Need.{dirty_parts, part_blocks}
 use Rattle.lfs_law.specs.OutlineCarried.{has_too_large}
-use Rattle.lfs_cut.specs.SetParts.{is_set_too_large, has_too_large_by, set_blocks, set_blocks_of}
+use Rattle.lfs_cut.specs.SetParts.{is_set_too_large, has_too_large_by, blocks_set, set_blocks_of}
 use Rattle.lfs_command.specs.Verdict.{is_too_large}
 use Rattle.lfs_law.proofs.LargeParts.{any_set}
 use Rattle.lfs_law.proofs.Needs.{sum_set}
@@ -40,5 +40,5 @@ sum_thread f (d ∷ ds) =
 pub all_blocks : (v : Volume) (bytes superblock : ℕ) → bytes ≡ room v → superblock ≡ superblock_weight v.attributes
     → sum_by (set_blocks_of bytes superblock) v.directories ≡ sum_by (part_blocks v) (dirty_parts v)
 all_blocks v bytes superblock is weighs =
-    rw (is, weighs) (sym (sum_thread (set_blocks (room v) (superblock_weight v.attributes)) v.directories)
+    rw (is, weighs) (sym (sum_thread (blocks_set (room v) (superblock_weight v.attributes)) v.directories)
     ∙ sym (sum_set (part_blocks v) (thread v.directories)))

@@ -19,9 +19,9 @@ abbrev pub has_too_large_by : ℕ → ℕ → Directory → Bool
 has_too_large_by room superblock d = list_any (is_set_too_large room superblock) (parts d)
 
 -- the blocks of the new parts of a part, where it is set
-abbrev pub set_blocks : ℕ → ℕ → Part → ℕ
-set_blocks room superblock p = if p.dirty then 2 * (length (runs_by room superblock p) - 1) else 0
+abbrev pub blocks_set : ℕ → ℕ → Part → ℕ
+blocks_set room superblock p = if p.dirty then 2 * (length (runs_by room superblock p) - 1) else 0
 
 -- the same of the parts of a directory
 abbrev pub set_blocks_of : ℕ → ℕ → Directory → ℕ
-set_blocks_of room superblock d = sum_by (set_blocks room superblock) (parts d)
+set_blocks_of room superblock d = sum_by (blocks_set room superblock) (parts d)

@@ -3,7 +3,7 @@
 ghost use Rattle.std.specs.Prelude.{◌≡◌, ◌≤◌, min, sum_by};
 ghost use Rattle.lfs_command.specs.Need.{dirty_parts, part_blocks};
 ghost use Rattle.lfs_cut.specs.Front.{IsCleanFrom};
-ghost use Rattle.lfs_cut.specs.SetParts.{set_blocks, set_blocks_of};
+ghost use Rattle.lfs_cut.specs.SetParts.{blocks_set, set_blocks_of};
 
 use crate::block_room::{BlockRoom, block_room};
 use crate::front::in_front;
@@ -12,7 +12,7 @@ use lfs_fs::{Outline, OutlineDirectory, OutlinePart};
 
 /// The new blocks of a part: two for each run behind the first, where the part is set. At most 2^64 - 1.
 fn part_blocks(room: BlockRoom, part: &OutlinePart) -> u64
-    ensures { result ≡ min u64.MAX (set_blocks room.bytes room.superblock part.now) }
+    ensures { result ≡ min u64.MAX (blocks_set room.bytes room.superblock part.now) }
 {
     if !part.dirty {
         return 0;
@@ -23,7 +23,7 @@ fn part_blocks(room: BlockRoom, part: &OutlinePart) -> u64
 
 /// The new blocks of parts. At most 2^64 - 1.
 fn blocks_of_parts(room: BlockRoom, parts: &[OutlinePart]) -> u64
-    ensures { result ≡ min u64.MAX (sum_by (set_blocks room.bytes room.superblock) parts.now) }
+    ensures { result ≡ min u64.MAX (sum_by (blocks_set room.bytes room.superblock) parts.now) }
 {
     let mut sum: u64 = 0;
     'each: for part in parts {

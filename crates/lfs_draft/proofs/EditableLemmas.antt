@@ -21,7 +21,7 @@ use Rattle.lfs_command.specs.declared.refusal.Refusal.TheVariants.{IsADirectory,
 use Rattle.lfs_command.specs.Command.{Mv, Put}
 use Rattle.lfs_draft.specs.Editable.{BeginOnce, NamedOnce, IsEditable}
 use Rattle.lfs_command.specs.Parent.{parent_of}
-use Rattle.lfs_law.specs.PairWalk.{pair_at, name_in}
+use Rattle.lfs_law.specs.PairWalk.{pair_at, directory_name}
 use Rattle.lfs_command.specs.ThreadEdit.{in_directory}
 use Rattle.lfs_command.specs.Verdict.{is_directory, is_root, last_length, refuse_if, walk_refusal}
 use Rattle.lfs_law.proofs.DirectoryEdits.{begins_same}
@@ -73,7 +73,7 @@ parent_at : (v : Volume) (p : Path) (h : Pair × Name) (s : Splits p) → parent
 parent_at v p h s is =
     ap (λ (x : Option (Path × Name)). unwrap_or (option_map (λ (s : Path × Name). length s.1) x) 0) s.split
     ∙ ap length (parent_by s.name (pair_at v.directories root s.front) h
-    (ap (option_and_then (name_in v.directories)) (sym s.split) ∙ sym ((walks_go_by_pairs v).parent p) ∙ is))
+    (ap (option_and_then (directory_name v.directories)) (sym s.split) ∙ sym ((walks_go_by_pairs v).parent p) ∙ is))
 
 pub last_parent : (v : Volume) (p : Path) (h : Pair × Name) → parent_of v p ≡ Some h → last_length p ≡ length h.1
 last_parent v [] h is = cc

@@ -12,7 +12,7 @@ use Rattle.lfs_fs.specs.Tree.{entry_in}
 use Rattle.lfs_fs.specs.Volume.{Volume}
 use Rattle.lfs_command.specs.declared.refusal.Refusal.{Refusal}
 use Rattle.lfs_command.specs.Parent.{parent_of}
-use Rattle.lfs_law.specs.PairWalk.{name_in, pair_at}
+use Rattle.lfs_law.specs.PairWalk.{directory_name, pair_at}
 use Rattle.lfs_law.specs.WalkRefusal.{goes_on, refuses_at, walk_all}
 use Rattle.lfs_law.proofs.ParentSteps.{split_behind}
 use Rattle.lfs_law.proofs.PairWalks.{walks_go_by_pairs}
@@ -39,5 +39,5 @@ pub no_parent : (v : Volume) (path front : Path) (n : Name) (r : Refusal) → pa
     → walk_all v.directories root front ≡ Some r → parent_of v path ≡ None
 no_parent v path front n r is refuses =
     ap (parent_of v) is ∙ (walks_go_by_pairs v).parent (front ++ n ∷ [])
-    ∙ ap (option_and_then (name_in v.directories)) (split_behind front n)
+    ∙ ap (option_and_then (directory_name v.directories)) (split_behind front n)
     ∙ ap (option_map (λ (j : Pair). (j, n))) (no_pair v.directories front r root refuses)

@@ -18,7 +18,7 @@ use Rattle.lfs_fs.specs.Uses.{times, uses}
 use Rattle.lfs_fs.specs.Volume.{Volume}
 use Rattle.lfs_command.specs.Accepted.{AreChosen, Follows, IsAccepted}
 use Rattle.lfs_draft.specs.LeastSupplies.{made_blocks}
-use Rattle.lfs_edit.specs.Carried.{IsCarriedOut, IsCutOver, IsCutReady, IsFinished, IsReady, WritesOver, supplies_of}
+use Rattle.lfs_edit.specs.Carried.{IsCarriedOnOutline, IsCutOver, IsCutReady, IsFinished, IsReady, WritesOver, supplies_of}
 use Rattle.lfs_edit.specs.CarryingLaws.{CarryingLaws}
 use Rattle.lfs_command.specs.Clean.{clean, cleaned}
 use Rattle.lfs_command.specs.Command.{Asked, Command, Spells}
@@ -153,7 +153,7 @@ carries v c used blocks o w chosen ready all = record {
 }
 
 pub carried_out : (laws : CarryingLaws) (v : Volume) (c : Command) (used : List Bool) (blocks gone : List ℕ) (o w : Volume) → o ≡ outlined v
-    → IsCutReady v c used blocks w → ((b : ℕ) → times b gone ≡ freed_uses o c b) → IsCarriedOut v c blocks gone (clean w)
+    → IsCutReady v c used blocks w → ((b : ℕ) → times b gone ≡ freed_uses o c b) → IsCarriedOnOutline v c blocks gone (clean w)
 unfolding carries
 carried_out laws v c used blocks gone o w is cut' freed = record {
   after = clean after;

@@ -11,7 +11,7 @@ use Rattle.lfs_fs.specs.Volume.{Volume}
 use Rattle.lfs_fs.proofs.OutlinedLemmas.{outlined_uses}
 use Rattle.lfs_command.specs.Command.{Command}
 use Rattle.lfs_command.specs.Growth.{count_after, grown}
-use Rattle.lfs_edit.specs.Carried.{IsCarriedOut}
+use Rattle.lfs_edit.specs.Carried.{IsCarriedOnOutline}
 use Rattle.lfs_law.specs.TablesFollow.{LeadsToTable, TablesFollow}
 
 -- the outline of an image is sound
@@ -23,7 +23,7 @@ outlined_table : (v : Volume) (used : List Bool) → IsTableOf v used → IsTabl
 outlined_table v used table = record { len = table.len; marks = λ b. table.marks b ∙ sym (outlined_uses b v) }
 
 pub table_behind : TablesFollow → (v : Volume) (c : Command) (o new : Volume) (used : List Bool) (blocks gone : List ℕ) → o ≡ outlined v
-    → IsTableOf (grown c o) used → IsCarriedOut v c blocks gone new → LeadsToTable used blocks gone new
+    → IsTableOf (grown c o) used → IsCarriedOnOutline v c blocks gone new → LeadsToTable used blocks gone new
 table_behind follow v c o new used blocks gone is table done = record {
   free = leads.free;
   marked = leads.marked;

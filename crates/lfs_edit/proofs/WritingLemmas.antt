@@ -6,7 +6,7 @@ use Rattle.lfs_block.specs.Change.{Change}
 use Rattle.lfs_block.specs.Disk.{Disk, IsDisk, resized}
 use Rattle.lfs_block.specs.Geometry.{IsGeometry}
 use Rattle.lfs_block.specs.Patch.{AgreesOld, IsGrowth}
-use Rattle.lfs_block.specs.PatchLaws.{IsDiskOf, IsKept, kept}
+use Rattle.lfs_block.specs.PatchLaws.{IsDiskOf, IsKeptPatch, kept}
 use Rattle.lfs_meta.specs.Body.{Pair}
 use Rattle.lfs_fs.specs.Directory.{Part}
 use Rattle.lfs_fs.specs.Free.{free_blocks}
@@ -253,7 +253,7 @@ is_written laws hand some d disk v c used blocks w ready known base cs laid writ
     stands : AgreesOld (grown_patch d.size d.count n cs) d
     stands = grown_agrees d n cs disk known.more written.made
 
-    turned : IsKept (grown_patch d.size d.count n cs) d (kept (grown_patch d.size d.count n cs)) e
+    turned : IsKeptPatch (grown_patch d.size d.count n cs) d (kept (grown_patch d.size d.count n cs)) e
     turned = hand.kept (grown_patch d.size d.count n cs) d disk growth stands
 
 -- one patch, by its numbers

@@ -110,7 +110,7 @@ pub record IsCutReady (v : Volume) (c : Command) (used : List Bool) (blocks : Li
 
 -- A command is carried out on a volume, of which an outline is that of what it leaves: it takes these blocks, the least free ones in order, and
 -- gives others back.
-pub record IsCarriedOut (v : Volume) (c : Command) (blocks back : List ℕ) (o : Volume) : Type 0 where
+pub record IsCarriedOnOutline (v : Volume) (c : Command) (blocks back : List ℕ) (o : Volume) : Type 0 where
   pub after : Volume
   pub carried : CarriesOut c v after
   pub supplies : carried.supplies ≡ supplies_of v c

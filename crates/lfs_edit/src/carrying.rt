@@ -28,7 +28,7 @@ ghost use Rattle.lfs_draft.specs.LeastSupplies.{least_supplies};
 ghost use Rattle.lfs_cut.specs.Chosen.{HasPairsOnce};
 ghost use Rattle.lfs_cut.specs.Front.{IsCleanFrom};
 ghost use Rattle.lfs_cut.specs.RoomChecks.{room_checks_on};
-ghost use Rattle.lfs_edit.specs.Carried.{IsCarriedOut, IsCutOver, IsCutReady, IsJudged, IsLed, IsOutlined};
+ghost use Rattle.lfs_edit.specs.Carried.{IsCarriedOnOutline, IsCutOver, IsCutReady, IsJudged, IsLed, IsOutlined};
 
 use crate::carried::Carried;
 use crate::carrying_laws::carrying_laws;
@@ -258,7 +258,7 @@ pub fn carry(
     requires table { IsTableOf outline.old used.old }
     requires names { HasNames (named_command command.now) }
     ensures carried { IfOk result (λ carried. (v : Volume) → IsOutlined v outline.old
-        → IsCarriedOut v (named_command command.now) carried.blocks.items carried.gone.items outline.new) }
+        → IsCarriedOnOutline v (named_command command.now) carried.blocks.items carried.gone.items outline.new) }
     ensures table { OnOk result (IsTableOf outline.new used.new) }
     ensures refused { IfErr result (λ r. (r ≡ Memory)
         ⊎ ((v : Volume) → IsOutlined v outline.old → verdict v (named_command command.now) ≡ Some r)) }

@@ -15,7 +15,7 @@ use Rattle.lfs_command.specs.PathMap.{below}
 use Rattle.lfs_law.proofs.PathMapLemmas.{below-append, below_some}
 use Rattle.lfs_listing.proofs.BelowLemmas.{name_at}
 use Rattle.lfs_listing.specs.Below.{names}
-use Rattle.lfs_extract.specs.RowsBelow.{IsFront, shared}
+use Rattle.lfs_extract.specs.RowsBelow.{IsSharedFront, shared}
 use Rattle.lfs_extract.specs.declared.front.Front.{Front}
 
 -- ---- shared names
@@ -24,7 +24,7 @@ shared_none : (at : Path) → shared at [] ≡ 0
 shared_none [] = refl
 shared_none (n ∷ at) = refl
 
-pub starts : (at : Path) (f : Front) → f.length ≡ 0 → f.shared ≡ 0 → IsFront at [] f
+pub starts : (at : Path) (f : Front) → f.length ≡ 0 → f.shared ≡ 0 → IsSharedFront at [] f
 starts at f long same = record { long = long; same = same ∙ sym (shared_none at) }
 
 no_more : (b : Bool) (x : ℕ) → (if b then suc x else 0) ≤ suc x
@@ -118,10 +118,10 @@ meets_same at front more kept old n b within long is least same =
 
 -- ---- the path of the next row
 
-pub goes_on : (at q : Path) (f g : Front) (kept depth : ℕ) (n : Name) → IsFront at q f → kept ≡ min f.length (depth - 1) → depth ≢ 0
+pub goes_on : (at q : Path) (f g : Front) (kept depth : ℕ) (n : Name) → IsSharedFront at q f → kept ≡ min f.length (depth - 1) → depth ≢ 0
     → g.length ≡ kept + 1
     → ((front more : Path) → length front ≡ kept → shared at (front ++ more) ≡ f.shared → g.shared ≡ shared at (front ++ n ∷ []))
-    → IsFront at (path_after q depth n) g
+    → IsSharedFront at (path_after q depth n) g
 goes_on at q f g kept zero n is least some' long after = absurd (some' refl)
 goes_on at q f g kept (suc k) n is least some' long after =
     let len : length (take k q) ≡ min k (length q) = length-take k q in
@@ -157,7 +157,7 @@ both true b there back = sym (there refl)
 both false true there back = back refl
 both false false there back = refl
 
-pub tells : (at : List (Bor Name)) (path : Path) (f : Front) → IsFront (names at) path f
+pub tells : (at : List (Bor Name)) (path : Path) (f : Front) → IsSharedFront (names at) path f
     → nat_eq f.shared (length at) ≡ is_some (below (names at) path)
 tells at path f is =
     let len : length (names at) ≡ length at = length-map at (λ (b : Bor Name). b.now) in

@@ -17,7 +17,7 @@ use Rattle.lfs_meta.proofs.NameLemmas.{is_name-decides}
 use Rattle.lfs_fs.specs.NameOrder.{precedes}
 use Rattle.lfs_fs.proofs.NameOrderLemmas.{precedes_irreflexive, precedes_transitive, precedes_compares}
 use Rattle.lfs_fs.proofs.ContainsLemmas.{contains_later}
-use Rattle.lfs_extract.specs.HostNames.{IsHostName, is_host_name, NamesRise, NoneFalls, IsTwiceIn}
+use Rattle.lfs_extract.specs.HostNames.{IsHostName, is_host_name, NamesAreInOrder, NoneFalls, IsTwiceIn}
 
 -- ---- which names fit
 
@@ -92,13 +92,13 @@ abbrev EachPrecedes : List Name → Type 0
 EachPrecedes ns = (k : ℕ) (d : Name) → suc k < length ns → precedes (get_or ns k d) (get_or ns (suc k) d) ≡ true
 
 -- names of which each comes before the next rise
-names_rise : (ns : List Name) → EachPrecedes ns → NamesRise ns
+names_rise : (ns : List Name) → EachPrecedes ns → NamesAreInOrder ns
 names_rise [] h = tt
 names_rise (n ∷ []) h = (All-nil (λ m. precedes n m ≡ true), tt)
 names_rise (n ∷ (m ∷ ns)) h =
     let P : Name → Type 0 = λ (l : Name). precedes n l ≡ true in
     let first : precedes n m ≡ true = h 0 [] (omega arith) in
-    let rest : NamesRise (m ∷ ns) = names_rise (m ∷ ns) (λ k d within. h (suc k) d (omega arith)) in (
+    let rest : NamesAreInOrder (m ∷ ns) = names_rise (m ∷ ns) (λ k d within. h (suc k) d (omega arith)) in (
       All-cons P m ns first (All-weaker (λ (l : Name). precedes m l ≡ true) P
           (λ l before. precedes_transitive n m l first before) ns rest.0),
       rest,
@@ -106,7 +106,7 @@ names_rise (n ∷ (m ∷ ns)) h =
 
 -- the same of the names of items
 pub items_rise : {X : Type 0} (f : X → Name) (xs : List X) → AllAdjacentBelow (λ x y. true ≡ precedes (f x) (f y)) xs (length xs)
-    → NamesRise (map f xs)
+    → NamesAreInOrder (map f xs)
 items_rise f [] h = tt
 items_rise f (x ∷ xs) h = names_rise (map f (x ∷ xs)) (λ k d within.
     let len : length (map f (x ∷ xs)) ≡ length (x ∷ xs) = length-map (x ∷ xs) f in

@@ -21,7 +21,7 @@ use Rattle.lfs_extract.specs.declared.folder_fault.FolderFault.{FolderFault}
 use Rattle.lfs_extract.specs.declared.folder_fault.FolderFault.TheVariants.{Memory, HostEntry, HostName, CannotRead}
 use Rattle.lfs_host.specs.HostTree.{HostTree, FolderOf, Lists, ReadsEntry}
 use Rattle.lfs_host.specs.Scene.{Scene}
-use Rattle.lfs_extract.specs.HostNames.{IsHostName, IsTwiceIn, NamesRise, CannotOrder}
+use Rattle.lfs_extract.specs.HostNames.{IsHostName, IsTwiceIn, NamesAreInOrder, CannotOrder}
 use Rattle.lfs_extract.specs.FolderWalk.{IsHostBlamed, RefusesFolder}
 use Rattle.lfs_extract.specs.PathBelow.{host_name}
 use Rattle.lfs_extract.specs.FolderRows.{PathRow, folder_row, IsInside, IsBelow, Shows}
@@ -120,7 +120,7 @@ file_put most known dir shown p bytes read = record {
 child_paths : (P : Path → Type 0) (p : Path) (names : List Name) → All (λ n. P (p ++ n ∷ [])) names → All P (children p names)
 child_paths P p names h = All-map P (λ (n : Name). p ++ n ∷ []) names h
 
-children_apart : (p : Path) (names : List Name) → NamesRise names → AreApart (children p names)
+children_apart : (p : Path) (names : List Name) → NamesAreInOrder names → AreApart (children p names)
 children_apart p [] rise = tt
 children_apart p (n ∷ names) rise = (
   child_paths (λ (q : Path). apart (p ++ n ∷ []) q ≡ true) p names (All-weaker (λ (m : Name). precedes n m ≡ true)
@@ -145,7 +145,7 @@ folder_tree most (Some tree) dir p names (there, is, same) below = record {
       contains_mapped (λ (m : Name). p ++ m ∷ []) names n listed;
 }
 
-pub folder_put : (most : ℕ) (known : Option HostTree) (dir : List ℕ) (shown : List PathRow) (p : Path) (names : List Name) → NamesRise names
+pub folder_put : (most : ℕ) (known : Option HostTree) (dir : List ℕ) (shown : List PathRow) (p : Path) (names : List Name) → NamesAreInOrder names
     → All IsHostName names → All IsHostName p → Lists known (host_name dir p) names → IfSome known (λ tree. IsBelow tree dir p)
     → IsPut most known dir shown p None (children p names)
 folder_put most known dir shown p names rise fit fit_p listed below = record {

@@ -16,12 +16,12 @@ use Rattle.lfs_extract.specs.declared.folder_row.FolderRow.{FolderRow}
 use Rattle.lfs_extract.specs.declared.folder_fault.FolderFault.{FolderFault}
 use Rattle.lfs_extract.specs.declared.folder_fault.FolderFault.TheVariants.{Memory, HostEntry, HostName, CannotRead}
 use Rattle.lfs_host.specs.declared.host_kind.HostKind.TheVariants.{Missing, Other}
-use Rattle.lfs_host.specs.HostTree.{HostNode, NothingThere, FileOf, FolderOf, OtherThere, HostTree, kind_of, IsKind, Lists, ReadsEntry}
+use Rattle.lfs_host.specs.HostTree.{HostNode, NothingThere, FileOf, FolderOf, OtherThere, HostTree, host_kind_of, IsKind, Lists, ReadsEntry}
 use Rattle.lfs_host.specs.Scene.{Scene}
 use Rattle.lfs_extract.specs.HostNames.{IsHostName}
 use Rattle.lfs_extract.specs.PathBelow.{name_in, host_name, text_below}
-use Rattle.lfs_extract.specs.FolderRows.{PathRow, folder_row, paths_of, IsRow, AreSpelled, IsInside, IsBelow, IsRight, AreAllBelow, IsFolder, RefusesTree, RefusesFolderRows, BlamesHost, IsUnreadable, most_rows}
-use Rattle.lfs_extract.specs.FolderWalk.{IsMet, IsTreeWalk, IsWalk, IsFolderWalk, ShowsMore, Enters, IsHostBlamed, RefusesFolder}
+use Rattle.lfs_extract.specs.FolderRows.{PathRow, folder_row, paths_of, IsRow, AreSpelled, IsInside, IsBelow, IsRight, AreAllBelow, IsFolder, RefusesHostTree, RefusesFolderRows, BlamesHost, IsUnreadable, most_rows}
+use Rattle.lfs_extract.specs.FolderWalk.{IsMet, IsTreeWalk, IsWalk, IsFolderWalk, ShowsMore, EntersFolder, IsHostBlamed, RefusesFolder}
 use Rattle.lfs_extract.proofs.PathBelowLemmas.{text_is, name_of_root, name_below, below_in, all_met}
 use Rattle.lfs_extract.proofs.WalkLemmas.{children, IsTreePut, IsPut, file_put, folder_put}
 
@@ -170,7 +170,7 @@ step_file most known dir name bytes rows longer waiting walk read (row, is, show
     }
 
 pub step_folder : (most : ℕ) (known : Option HostTree) (dir name : List ℕ) (rows longer : List FolderRow) (waiting more : List (List ℕ))
-    → IsFolderWalk most known dir rows (name ∷ waiting) → Enters known (length dir) name rows longer waiting more
+    → IsFolderWalk most known dir rows (name ∷ waiting) → EntersFolder known (length dir) name rows longer waiting more
     → IsFolderWalk most known dir longer more
 step_folder most known dir name rows longer waiting more walk enters =
     let next = next_path dir name waiting walk.queue walk.names in
@@ -211,7 +211,7 @@ nothing_above None dir = tt
 nothing_above (Some tree) dir = tt
 
 pub walk_start : (most : ℕ) (known : Option HostTree) (dir : List ℕ) (rows : List FolderRow) (more : List (List ℕ))
-    → Enters known (length dir) dir [] rows [] more → IsFolderWalk most known dir rows more
+    → EntersFolder known (length dir) dir [] rows [] more → IsFolderWalk most known dir rows more
 walk_start most known dir rows more enters =
     let listed : Lists known (host_name dir []) enters.names =
     subst (λ (x : List ℕ). Lists known x enters.names) (sym (name_of_root dir)) enters.listed in
@@ -279,7 +279,7 @@ walk_end most known dir rows walk =
 
 -- ---- why a walk ends early
 
-other_there : (node : HostNode) → Other ≡ kind_of node → node ≡ OtherThere
+other_there : (node : HostNode) → Other ≡ host_kind_of node → node ≡ OtherThere
 other_there NothingThere h = cc
 other_there (FileOf bytes) h = cc
 other_there (FolderOf names) h = cc
@@ -300,7 +300,7 @@ refuses_other : (most : ℕ) (known : Option HostTree) (dir name : List ℕ) (p 
     → IfSome known (λ tree. IsBelow tree dir p) → RefusesFolderRows known dir HostEntry
 refuses_other most None dir name p is other kind below = tt
 refuses_other most (Some tree) dir name p is other kind below =
-    (p, below, other, other_there (tree (host_name dir p)) (kind ∙ ap (λ (x : List ℕ). kind_of (tree x)) is))
+    (p, below, other, other_there (tree (host_name dir p)) (kind ∙ ap (λ (x : List ℕ). host_kind_of (tree x)) is))
 
 pub walk_other : (most : ℕ) (known : Option HostTree) (dir name : List ℕ) (rows : List FolderRow) (waiting : List (List ℕ))
     → IsFolderWalk most known dir rows (name ∷ waiting) → IsKind known name Other → RefusesFolderRows known dir HostEntry
@@ -312,7 +312,7 @@ walk_other most known dir name rows waiting walk kind =
     (known_below most known dir walk.shown p next.rest here)
 
 refuses_folder : (tree : HostTree) (dir name : List ℕ) (p : Path) (fault : FolderFault) → name ≡ host_name dir p → IsBelow tree dir p
-    → RefusesFolder name fault tree → RefusesTree tree dir fault
+    → RefusesFolder name fault tree → RefusesHostTree tree dir fault
 refuses_folder tree dir name p HostName is below (names, n, folder, there, bad) =
     (p, n, below_in tree dir p names n below (ap tree (sym is) ∙ folder) there, bad)
 refuses_folder tree dir name p HostEntry is below why = absurd why
@@ -325,18 +325,18 @@ walk_refused most known dir name rows waiting fault walk why =
     let next = next_path dir name waiting walk.queue walk.names in
     let p : Path = next.path in
     let here = at_next most known dir walk.shown walk.queue p next.rest next.queue_is walk.walk in
-    both_known known (λ (tree : HostTree). IsBelow tree dir p) (RefusesFolder name fault) (λ (tree : HostTree). RefusesTree tree dir fault)
+    both_known known (λ (tree : HostTree). IsBelow tree dir p) (RefusesFolder name fault) (λ (tree : HostTree). RefusesHostTree tree dir fault)
     (λ tree below h. refuses_folder tree dir name p fault next.name_is below h)
     (known_below most known dir walk.shown p next.rest here) why
 
 pub start_refused : (known : Option HostTree) (dir : List ℕ) (fault : FolderFault) → IfSome known (RefusesFolder dir fault) → RefusesFolderRows known dir fault
 start_refused known dir fault why =
-    both_known known (λ (tree : HostTree). IsBelow tree dir []) (RefusesFolder dir fault) (λ (tree : HostTree). RefusesTree tree dir fault)
+    both_known known (λ (tree : HostTree). IsBelow tree dir []) (RefusesFolder dir fault) (λ (tree : HostTree). RefusesHostTree tree dir fault)
     (λ tree below h. refuses_folder tree dir dir [] fault (sym (name_of_root dir)) below h) (nothing_above known dir) why
 
 -- ---- why it can't be read
 
-missing_there : (node : HostNode) → Missing ≡ kind_of node → node ≡ NothingThere
+missing_there : (node : HostNode) → Missing ≡ host_kind_of node → node ≡ NothingThere
 missing_there NothingThere h = refl
 missing_there (FileOf bytes) h = cc
 missing_there (FolderOf names) h = cc
@@ -346,7 +346,7 @@ blames_gap : (known : Option HostTree) (dir name : List ℕ) (p : Path) (new : S
     → IfSome known (λ tree. IsBelow tree dir p) → BlamesHost known dir new CannotRead
 blames_gap None dir name p new is other kind below = tt
 blames_gap (Some tree) dir name p new is other kind below =
-    inr (inl (p, below, other, missing_there (tree (host_name dir p)) (kind ∙ ap (λ (x : List ℕ). kind_of (tree x)) is)))
+    inr (inl (p, below, other, missing_there (tree (host_name dir p)) (kind ∙ ap (λ (x : List ℕ). host_kind_of (tree x)) is)))
 
 -- what waits isn't there
 pub walk_missing : (most : ℕ) (known : Option HostTree) (dir name : List ℕ) (rows : List FolderRow) (waiting : List (List ℕ)) (new : Scene)

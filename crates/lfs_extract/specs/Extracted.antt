@@ -15,13 +15,13 @@ use Rattle.lfs_extract.specs.declared.extract_fault.ExtractFault.TheVariants.{Me
 -- ---- what is made
 
 -- what stands in a tree, under a host's name; attributes are left out
-abbrev pub made_as : List ℕ → Node → Made
-made_as name (File bytes attributes) = FileMade name bytes
-made_as name (Dir attributes) = FolderMade name
+abbrev pub made_node : List ℕ → Node → Made
+made_node name (File bytes attributes) = FileMade name bytes
+made_node name (Dir attributes) = FolderMade name
 
 -- of a row what it shows on a disk, under the name of a folder with a slash before each name of the row's path
 abbrev pub made_of : Disk → List ℕ → Row → Made
-made_of d dir r = made_as (host_name dir r.path) (shown_node d r.entry)
+made_of d dir r = made_node (host_name dir r.path) (shown_node d r.entry)
 
 -- of each row
 abbrev pub all_made : Disk → List ℕ → List Row → List Made

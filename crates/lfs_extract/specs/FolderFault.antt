@@ -6,9 +6,9 @@ use Rattle.lfs_host.specs.declared.read_fault.ReadFault.TheVariants as reading
 use Rattle.lfs_host.specs.declared.list_fault.ListFault.{ListFault}
 use Rattle.lfs_host.specs.declared.list_fault.ListFault.TheVariants as listing
 
-abbrev pub fault_of_reading : ReadFault → FolderFault
-fault_of_reading reading.Memory = Memory
-fault_of_reading reading.CannotRead = CannotRead
+abbrev pub folder_fault_of : ReadFault → FolderFault
+folder_fault_of reading.Memory = Memory
+folder_fault_of reading.CannotRead = CannotRead
 
 abbrev pub fault_of_listing : ListFault → FolderFault
 fault_of_listing listing.Memory = Memory

@@ -80,15 +80,15 @@ pub record IsFolder (most : ℕ) (known : Option HostTree) (dir : List ℕ) (row
   pub all : IfSome known (λ tree. AreAllBelow most tree dir shown)
 
 -- why a known host's folder isn't read; a host may refuse for reasons of its own
-abbrev pub RefusesTree : HostTree → List ℕ → FolderFault → Type 0
-RefusesTree tree dir HostEntry = (path : Path) × IsBelow tree dir path × (path ≢ []) × (tree (host_name dir path) ≡ OtherThere)
-RefusesTree tree dir HostName = (path : Path) × (n : Name) × IsBelow tree dir (path ++ n ∷ []) × ¬ IsHostName n
-RefusesTree tree dir Memory = ⊤
-RefusesTree tree dir CannotRead = ⊤
+abbrev pub RefusesHostTree : HostTree → List ℕ → FolderFault → Type 0
+RefusesHostTree tree dir HostEntry = (path : Path) × IsBelow tree dir path × (path ≢ []) × (tree (host_name dir path) ≡ OtherThere)
+RefusesHostTree tree dir HostName = (path : Path) × (n : Name) × IsBelow tree dir (path ++ n ∷ []) × ¬ IsHostName n
+RefusesHostTree tree dir Memory = ⊤
+RefusesHostTree tree dir CannotRead = ⊤
 
 -- the same, where the host is known
 abbrev pub RefusesFolderRows : Option HostTree → List ℕ → FolderFault → Type 0
-RefusesFolderRows known dir fault = IfSome known (λ tree. RefusesTree tree dir fault)
+RefusesFolderRows known dir fault = IfSome known (λ tree. RefusesHostTree tree dir fault)
 
 -- ---- what can't be read
 

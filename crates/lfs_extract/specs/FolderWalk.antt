@@ -8,7 +8,7 @@ use Rattle.lfs_extract.specs.declared.folder_fault.FolderFault.{FolderFault}
 use Rattle.lfs_extract.specs.declared.folder_fault.FolderFault.TheVariants.{Memory, HostEntry, HostName, CannotRead}
 use Rattle.lfs_host.specs.HostTree.{FolderOf, HostTree, Lists}
 use Rattle.lfs_host.specs.Scene.{HasRefused, Scene}
-use Rattle.lfs_extract.specs.HostNames.{IsHostName, NamesRise}
+use Rattle.lfs_extract.specs.HostNames.{IsHostName, NamesAreInOrder}
 use Rattle.lfs_extract.specs.PathBelow.{name_in, host_name, text_below}
 use Rattle.lfs_extract.specs.FolderRows.{PathRow, folder_row, paths_of, IsRow, AreSpelled, IsInside, IsBelow, IsRight}
 
@@ -50,11 +50,11 @@ abbrev pub ShowsMore : List ℕ → Option (List ℕ) → List FolderRow → Lis
 ShowsMore text bytes rows longer = (row : FolderRow) × (longer ≡ rows ++ row ∷ []) × IsRow row text bytes
 
 -- a folder is shown, and the names in it are put before what waits
-pub record Enters (known : Option HostTree) (len : ℕ) (folder : List ℕ) (rows longer : List FolderRow)
+pub record EntersFolder (known : Option HostTree) (len : ℕ) (folder : List ℕ) (rows longer : List FolderRow)
     (waiting more : List (List ℕ)) : Type 0 where
   pub names : List Name
   pub listed : Lists known folder names
-  pub rise : NamesRise names
+  pub rise : NamesAreInOrder names
   pub fit : All IsHostName names
   pub shows : ShowsMore (text_below len folder) None rows longer
   pub waits : more ≡ map (name_in folder) names ++ waiting

@@ -19,9 +19,9 @@ abbrev pub is_host_name : Name → Bool
 is_host_name n = is_name n && not (list_any (λ b. b == 0) n)
 
 -- each name comes before all later ones
-abbrev pub NamesRise : List Name → Type 0
-NamesRise [] = ⊤
-NamesRise (n ∷ ns) = All (λ m. precedes n m ≡ true) ns × NamesRise ns
+abbrev pub NamesAreInOrder : List Name → Type 0
+NamesAreInOrder [] = ⊤
+NamesAreInOrder (n ∷ ns) = All (λ m. precedes n m ≡ true) ns × NamesAreInOrder ns
 
 -- no name comes before the one in front of it
 abbrev pub NoneFalls : List Name → Type 0
@@ -29,7 +29,7 @@ NoneFalls = IsSortedBy precedes
 
 -- the same names, each once, in order
 pub record AreInOrder (there sorted : List Name) : Type 0 where
-  pub rise : NamesRise sorted
+  pub rise : NamesAreInOrder sorted
   pub fit : All IsHostName sorted
   pub same : IsPermutation there sorted
 

@@ -5,7 +5,7 @@ use Rattle.lfs_file.specs.Content.{content}
 use Rattle.lfs_fs.specs.Entry.{Body, Inline, Chain, Directory_at}
 
 -- the bytes that a row's file has on a disk; a directory has none
-abbrev pub contents_of : Disk → Body → List ℕ
-contents_of d (Inline bytes) = bytes
-contents_of d (Chain blocks zeros) = content d (length zeros) blocks
-contents_of d (Directory_at pair) = []
+abbrev pub held_bytes : Disk → Body → List ℕ
+held_bytes d (Inline bytes) = bytes
+held_bytes d (Chain blocks zeros) = content d (length zeros) blocks
+held_bytes d (Directory_at pair) = []

@@ -23,7 +23,7 @@ shared (n ∷ at) [] = 0
 shared (n ∷ at) (m ∷ path) = if bytes_eq n m then suc (shared at path) else 0
 
 -- how many names a path has, and with how many of another one's it begins
-pub record IsFront (at path : Path) (front : Front) : Type 0 where
+pub record IsSharedFront (at path : Path) (front : Front) : Type 0 where
   pub long : front.length ≡ length path
   pub same : front.shared ≡ shared at path
 

@@ -8,11 +8,11 @@ use Rattle.lfs_fs.specs.Mounts.{Mounts}
 use Rattle.lfs_fs.specs.Ordered.{PathsRise}
 use Rattle.lfs_extract.specs.PathBelow.{host_name}
 use Rattle.lfs_host.specs.NewFolder.{Made}
-use Rattle.lfs_extract.specs.Extracted.{made_as}
+use Rattle.lfs_extract.specs.Extracted.{made_node}
 
 -- below a path a tree has something where this is left, and this is made of it, under the host's name of what is left
 abbrev pub IsMadeAt : (Path → Option Node) → Path → List ℕ → Path → Made → Type 0
-IsMadeAt t at dir rest made = (x : Node) × (t (at ++ rest) ≡ Some x) × (made ≡ made_as (host_name dir rest) x)
+IsMadeAt t at dir rest made = (x : Node) × (t (at ++ rest) ≡ Some x) × (made ≡ made_node (host_name dir rest) x)
 
 -- an image mounts to a tree, and these are made of what the tree has at a path and at each below it, each once, in the order of paths
 pub record AreOfTree (d : Disk) (at : Path) (dir : List ℕ) (made : List Made) : Type 0 where

@@ -51,9 +51,9 @@ impl From<AllocError> for FolderFault {
 
 impl From<ReadFault> for FolderFault {
     ghost use Rattle.std.specs.Prelude.{◌≡◌};
-    ghost use Rattle.lfs_extract.specs.FolderFault.{fault_of_reading};
+    ghost use Rattle.lfs_extract.specs.FolderFault.{folder_fault_of};
 
-    ghost from_gives = { λ read fault. fault ≡ fault_of_reading read };
+    ghost from_gives = { λ read fault. fault ≡ folder_fault_of read };
 
     fn from(read: ReadFault) -> FolderFault {
         match read {

@@ -38,11 +38,11 @@ impl Front {
     ghost use Rattle.lfs_fs.specs.Listed.{path_after};
     ghost use Rattle.lfs_fs.specs.Path.{Path};
     ghost use Rattle.lfs_listing.specs.Below.{names};
-    ghost use Rattle.lfs_extract.specs.RowsBelow.{IsFront};
+    ghost use Rattle.lfs_extract.specs.RowsBelow.{IsSharedFront};
 
     /// Of the path that has no names, behind which the first row comes.
     pub(crate) fn new() -> Front
-        ensures { (at : Path) → IsFront at [] result }
+        ensures { (at : Path) → IsSharedFront at [] result }
     {
         Front {
             length: 0,
@@ -52,8 +52,8 @@ impl Front {
 
     /// Of the row that comes next, beside the same path.
     pub(crate) fn behind(self, at: &[&[u8]], next: &Row<'_>) -> Front
-        ensures { (path : Path) → IsFront (names at.now) path self
-            → IsFront (names at.now) (path_after path next.now.depth next.now.entry.name) result }
+        ensures { (path : Path) → IsSharedFront (names at.now) path self
+            → IsSharedFront (names at.now) (path_after path next.now.depth next.now.entry.name) result }
     {
         if next.depth == 0 {
             return Front::new();
@@ -67,14 +67,14 @@ impl Front {
 
     /// Whether the row is at the path or below it.
     pub(crate) fn is_below(self, at: &[&[u8]]) -> bool
-        ensures { (path : Path) → IsFront (names at.now) path self → result ≡ is_some (below (names at.now) path) }
+        ensures { (path : Path) → IsSharedFront (names at.now) path self → result ≡ is_some (below (names at.now) path) }
     {
         self.shared == at.len()
     }
 
     /// How many more names the row's path has.
     pub(crate) fn more(self, at: &[&[u8]]) -> usize
-        ensures { (path : Path) → IsFront (names at.now) path self → result ≡ length path - length (names at.now) }
+        ensures { (path : Path) → IsSharedFront (names at.now) path self → result ≡ length path - length (names at.now) }
     {
         self.length.saturating_sub(at.len())
     }

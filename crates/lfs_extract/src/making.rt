@@ -5,10 +5,10 @@ ghost use Rattle.lfs_meta.specs.Attribute.{Attributes};
 ghost use Rattle.lfs_fs.specs.RowHeld.{row_body_held};
 ghost use Rattle.lfs_fs.specs.RowShown.{HasBlocks, shown_node};
 ghost use Rattle.lfs_host.specs.Send.{Sends};
-ghost use Rattle.lfs_extract.specs.Making.{contents_of};
-ghost use Rattle.lfs_host.specs.NewFolder.{Begins, FileMade, Makes};
+ghost use Rattle.lfs_extract.specs.Making.{held_bytes};
+ghost use Rattle.lfs_host.specs.NewFolder.{BeginsFile, FileMade, Makes};
 ghost use Rattle.lfs_host.specs.Scene.{HasRefused, KeepsFiles};
-ghost use Rattle.lfs_extract.specs.Extracted.{made_as};
+ghost use Rattle.lfs_extract.specs.Extracted.{made_node};
 
 use crate::file_sink::FileSink;
 use lfs_block::Blocks;
@@ -20,7 +20,7 @@ use lfs_host::{HostFault, NewFolder, Sink, send};
 fn send_contents<B: Blocks, S: Sink>(disk: &B, body: &RowBody<'_>, out: &mut S) -> bool
     requires blocks { HasBlocks (B.disk disk.now) (row_body_held body.now) }
     requires works { S.failed out.old ≡ false }
-    ensures sent { Sends result (S.sent out.old) (S.sent out.new) (contents_of (B.disk disk.now) (row_body_held body.now)) }
+    ensures sent { Sends result (S.sent out.old) (S.sent out.new) (held_bytes (B.disk disk.now) (row_body_held body.now)) }
     ensures failed { S.failed out.new ≡ not result }
     ensures kept { S.kept out.new ≡ S.kept out.old }
 {
@@ -34,7 +34,7 @@ fn send_contents<B: Blocks, S: Sink>(disk: &B, body: &RowBody<'_>, out: &mut S) 
 /// Writes the contents of a row to the file that is being made: `true` where they were written.
 fn fill_file<B: Blocks, F: NewFolder>(disk: &B, body: &RowBody<'_>, folder: &mut F) -> bool
     requires blocks { HasBlocks (B.disk disk.now) (row_body_held body.now) }
-    ensures filled { Sends result (F.known folder.old).filled (F.known folder.new).filled (contents_of (B.disk disk.now) (row_body_held body.now)) }
+    ensures filled { Sends result (F.known folder.old).filled (F.known folder.new).filled (held_bytes (B.disk disk.now) (row_body_held body.now)) }
     ensures made { (F.known folder.new).made ≡ (F.known folder.old).made }
     ensures blamed { result ≡ false → HasRefused (F.known folder.new) }
     ensures kept { KeepsFiles (F.known folder.old) (F.known folder.new) }
@@ -52,9 +52,9 @@ pub fn write_file<B: Blocks, F: NewFolder>(
     folder: &mut F,
 ) -> Result<(), HostFault>
     requires blocks { HasBlocks (B.disk disk.now) (row_body_held body.now) }
-    requires begun { Begins (F.known folder.old).made (F.known folder.old).filled }
+    requires begun { BeginsFile (F.known folder.old).made (F.known folder.old).filled }
     ensures made { MatchResult result
-        (λ _. Makes (F.known folder.old).made (F.known folder.new).made (FileMade name.now (contents_of (B.disk disk.now) (row_body_held body.now)) ∷ []))
+        (λ _. Makes (F.known folder.old).made (F.known folder.new).made (FileMade name.now (held_bytes (B.disk disk.now) (row_body_held body.now)) ∷ []))
         (λ _. (F.known folder.new).made ≡ (F.known folder.old).made) }
     ensures blamed { OnErr result (HasRefused (F.known folder.new)) }
     ensures kept { KeepsFiles (F.known folder.old) (F.known folder.new) }
@@ -74,7 +74,7 @@ fn make_file<B: Blocks, F: NewFolder>(
 ) -> Result<(), HostFault>
     requires blocks { HasBlocks (B.disk disk.now) (row_body_held body.now) }
     ensures made { MatchResult result
-        (λ _. Makes (F.known folder.old).made (F.known folder.new).made (FileMade name.now (contents_of (B.disk disk.now) (row_body_held body.now)) ∷ []))
+        (λ _. Makes (F.known folder.old).made (F.known folder.new).made (FileMade name.now (held_bytes (B.disk disk.now) (row_body_held body.now)) ∷ []))
         (λ _. (F.known folder.new).made ≡ (F.known folder.old).made) }
     ensures blamed { OnErr result (HasRefused (F.known folder.new)) }
     ensures kept { KeepsFiles (F.known folder.old) (F.known folder.new) }
@@ -92,7 +92,7 @@ pub(crate) fn make_row<B: Blocks, F: NewFolder>(
 ) -> Result<(), HostFault>
     requires blocks { HasBlocks (B.disk disk.now) row.now.entry.body }
     ensures made { MatchResult result
-        (λ _. Makes (F.known folder.old).made (F.known folder.new).made (made_as name.now (shown_node (B.disk disk.now) row.now.entry) ∷ []))
+        (λ _. Makes (F.known folder.old).made (F.known folder.new).made (made_node name.now (shown_node (B.disk disk.now) row.now.entry) ∷ []))
         (λ _. (F.known folder.new).made ≡ (F.known folder.old).made) }
     ensures blamed { OnErr result (HasRefused (F.known folder.new)) }
     ensures kept { KeepsFiles (F.known folder.old) (F.known folder.new) }

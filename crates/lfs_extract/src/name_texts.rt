@@ -5,7 +5,7 @@ ghost use Rattle.lfs_fs.specs.Listed.{rows_listed};
 ghost use Rattle.lfs_fs.specs.Path.{Path};
 ghost use Rattle.lfs_listing.specs.Below.{names};
 ghost use Rattle.lfs_extract.specs.Extracted.{HasOtherName, HaveTexts, IsHostText};
-ghost use Rattle.lfs_extract.specs.RowsBelow.{IsDeeper, IsFront, rows_below};
+ghost use Rattle.lfs_extract.specs.RowsBelow.{IsDeeper, IsSharedFront, rows_below};
 
 use crate::front::Front;
 use lfs_fs::Rows;
@@ -19,7 +19,7 @@ fn is_host_text(name: &[u8]) -> bool
 
 /// Whether the path of a row is below another one, and its last name isn't UTF-8 or holds a byte of zero.
 fn has_other_name(front: Front, at: &[&[u8]], name: &[u8]) -> bool
-    ensures { (path : Path) → IsFront (names at.now) path front
+    ensures { (path : Path) → IsSharedFront (names at.now) path front
         → MatchBool result (IsDeeper (names at.now) path × ¬ IsHostText name.now) (IsDeeper (names at.now) path → IsHostText name.now) }
 {
     front.is_below(at) && front.more(at) > 0 && !is_host_text(name)

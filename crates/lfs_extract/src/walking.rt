@@ -3,7 +3,7 @@
 ghost use Rattle.std.specs.Prelude.{◌≡◌, ◌+◌, ◌<◌, ◌++◌, ◌∷◌, IfErr, IfOk, IfSome, OnOk, length, map, option_map, reverse, string_bytes};
 ghost use Rattle.lfs_host.specs.Scene.{KeepsAll};
 ghost use Rattle.lfs_extract.specs.FolderRows.{BlamesHost, RefusesFolderRows};
-ghost use Rattle.lfs_extract.specs.FolderWalk.{Enters, IsFolderWalk, IsHostBlamed, RefusesFolder, ShowsMore};
+ghost use Rattle.lfs_extract.specs.FolderWalk.{EntersFolder, IsFolderWalk, IsHostBlamed, RefusesFolder, ShowsMore};
 ghost use Rattle.lfs_extract.specs.PathBelow.{name_in, text_below};
 
 use crate::folder_fault::FolderFault;
@@ -89,7 +89,7 @@ impl FolderWalk {
         len: usize,
         folder: &str,
     ) -> Result<(), FolderFault>
-        ensures entered { OnOk result (Enters (H.known host.old).tree len folder.now self.old.rows.items self.new.rows.items
+        ensures entered { OnOk result (EntersFolder (H.known host.old).tree len folder.now self.old.rows.items self.new.rows.items
             (map (λ s. string_bytes s) (reverse self.old.waiting.items)) (map (λ s. string_bytes s) (reverse self.new.waiting.items))) }
         ensures refused { IfErr result (λ fault. IfSome (H.known host.old).tree (RefusesFolder folder.now fault)) }
         ensures blamed { IfErr result (λ fault. IsHostBlamed (H.known host.old).tree (H.known host.new) fault) }

@@ -8,9 +8,9 @@ use Rattle.std.proofs.lemmas.List.FromFn.{map-range_with_len_more}
 use Rattle.std.proofs.lemmas.List.Sums.{sum_by_push}
 use Rattle.std.proofs.lemmas.Bool.Decides.{leb_tells, eqb_tells}
 use Rattle.std.proofs.lemmas.Nat.{trailing_le}
-use Rattle.lfs_file.specs.Capacity.{pointers, capacity, room, IsLeast, least_from, least_blocks}
+use Rattle.lfs_file.specs.Capacity.{pointers, capacity, bytes_of_blocks, IsLeast, least_from, least_blocks}
 
-pub room_more : (size n : ℕ) → room size (n + 1) ≡ room size n + capacity size n
+pub room_more : (size n : ℕ) → bytes_of_blocks size (n + 1) ≡ bytes_of_blocks size n + capacity size n
 room_more size n =
     ap sum (map-range_with_len_more (capacity size) 0 n n (omega arith))
     ∙ sum_by_push (λ x. x) (map (capacity size) (range_with_len 0 n)) (capacity size n)
@@ -44,19 +44,19 @@ two_hold : (size n : ℕ) → 8 ≤ size → 4 ≤ capacity size n + capacity si
 two_hold size n big = held size (pointers n) (pointers (n + 1)) big (odd_one n (parity n))
 
 -- n blocks hold 2 * n bytes or more
-pub room_grows : (size n : ℕ) → 8 ≤ size → 2 * n ≤ room size n
+pub room_grows : (size n : ℕ) → 8 ≤ size → 2 * n ≤ bytes_of_blocks size n
 room_grows size zero big = omega arith
 room_grows size (suc zero) big = omega arith
 room_grows size (suc (suc n)) big =
-    let earlier : 2 * n ≤ room size n = room_grows size n big in
-    let first : room size (n + 1) ≡ room size n + capacity size n = room_more size n in
-    let second : room size (n + 1 + 1) ≡ room size (n + 1) + capacity size (n + 1) = room_more size (n + 1) in
+    let earlier : 2 * n ≤ bytes_of_blocks size n = room_grows size n big in
+    let first : bytes_of_blocks size (n + 1) ≡ bytes_of_blocks size n + capacity size n = room_more size n in
+    let second : bytes_of_blocks size (n + 1 + 1) ≡ bytes_of_blocks size (n + 1) + capacity size (n + 1) = room_more size (n + 1) in
     let both : 4 ≤ capacity size n + capacity size (n + 1) = two_hold size n big in
     let number : n + 1 + 1 ≡ suc (suc n) = omega arith in
-    let held_by : 2 * suc (suc n) ≤ room size (n + 1 + 1) = omega arith in
+    let held_by : 2 * suc (suc n) ≤ bytes_of_blocks size (n + 1 + 1) = omega arith in
     rw number at held_by
 
-least_from_is : (size len n steps m : ℕ) → n + steps ≡ m → ((k : ℕ) → k < n → room size k < len) → len ≤ room size m
+least_from_is : (size len n steps m : ℕ) → n + steps ≡ m → ((k : ℕ) → k < n → bytes_of_blocks size k < len) → len ≤ bytes_of_blocks size m
     → IsLeast size len (least_from size len n steps)
 unfolding least_from
 least_from_is size len n zero m is below enough =
@@ -64,7 +64,7 @@ least_from_is size len n zero m is below enough =
     (rw same at enough, below)
 least_from_is size len n (suc steps) m is below enough =
     let next : n + 1 + steps ≡ m = omega arith in
-    elim (leb_tells len (room size n)) [
+    elim (leb_tells len (bytes_of_blocks size n)) [
       | inl here ↦ rw here.0 (here.1, below)
       | inr more ↦ rw more.0 (least_from_is size len (n + 1) steps m next (below_more _ _ below more.1) enough)
     ]

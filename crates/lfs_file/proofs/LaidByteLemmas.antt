@@ -5,7 +5,7 @@ use Rattle.std.specs.Int.{w32, to_le_bytes}
 use Rattle.std.proofs.lemmas.List.Elements.{All-from_get_or}
 use Rattle.lfs_block.specs.Bytes.{IsBytes}
 use Rattle.lfs_block.proofs.PutLemmas.{IsBytes-drop, IsBytes-take, IsBytes-append}
-use Rattle.lfs_file.specs.Capacity.{capacity, pointers, room}
+use Rattle.lfs_file.specs.Capacity.{capacity, pointers, bytes_of_blocks}
 use Rattle.lfs_file.specs.Laying.{filled, laid, laid_pointers, share_of}
 use Rattle.lfs_file.proofs.LaidLemmas.{length-laid, get_or-laid}
 use Rattle.lfs_file.proofs.LayingLemmas.{pointers-none, pointers-more}
@@ -41,5 +41,5 @@ pub laid-bytes : (size : ℕ) (bytes blocks : List ℕ) → IsBytes bytes → Al
 laid-bytes size bytes blocks all =
     All-from_get_or IsBytes (laid size bytes blocks) []
     (λ n within. subst IsBytes (sym (get_or-laid size bytes blocks n (omega (arith, within, length-laid size bytes blocks))))
-    (IsBytes-filled size n (share_of size bytes n) blocks (IsBytes-take (capacity size n) (drop (room size n) bytes)
-    (IsBytes-drop (room size n) bytes all))))
+    (IsBytes-filled size n (share_of size bytes n) blocks (IsBytes-take (capacity size n) (drop (bytes_of_blocks size n) bytes)
+    (IsBytes-drop (bytes_of_blocks size n) bytes all))))

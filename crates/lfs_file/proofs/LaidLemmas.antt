@@ -10,7 +10,7 @@ use Rattle.std.proofs.lemmas.List.Folds.{concat-append}
 use Rattle.std.proofs.lemmas.Bool.{cases_lt}
 use Rattle.lfs_block.specs.Disk.{Disk, IsDisk, block_of}
 use Rattle.lfs_block.specs.Geometry.{IsBlockSize}
-use Rattle.lfs_file.specs.Capacity.{IsLeast, capacity, pointers, room}
+use Rattle.lfs_file.specs.Capacity.{IsLeast, capacity, pointers, bytes_of_blocks}
 use Rattle.lfs_file.specs.Content.{data_part, content}
 use Rattle.lfs_file.specs.Laying.{IsLaid, filled, laid, share_of}
 use Rattle.lfs_file.specs.Pointer.{pointer}
@@ -81,7 +81,7 @@ cut_part k held rest part fill long is fills =
 
 -- the first n blocks hold the front of the file
 front_held : (d : Disk) (head : ℕ) (bytes blocks : List ℕ) → IsDisk d → IsLaid d head bytes blocks → (n : ℕ) → n ≤ length blocks
-    → take (length bytes) (concat (map (data_part d blocks) (range_with_len 0 n))) ≡ take (room d.size n) bytes
+    → take (length bytes) (concat (map (data_part d blocks) (range_with_len 0 n))) ≡ take (bytes_of_blocks d.size n) bytes
 front_held d head bytes blocks disk is zero within = take_all (length bytes) [] (omega arith)
 front_held d head bytes blocks disk is (suc n) within =
     let size = d.size in
@@ -91,20 +91,20 @@ front_held d head bytes blocks disk is (suc n) within =
     let part = share_of size bytes n in
     let fill : List ℕ = replicate (capacity size n - length part) 0xff in
     let number : n + 1 ≡ suc n = add-one n in
-    let earlier : take len front ≡ take (room size n) bytes = front_held d head bytes blocks disk is n (omega (arith, within)) in
-    let held : length front ≡ room size n = length-parts d blocks n disk is.below (omega (arith, within)) in
+    let earlier : take len front ≡ take (bytes_of_blocks size n) bytes = front_held d head bytes blocks disk is n (omega (arith, within)) in
+    let held : length front ≡ bytes_of_blocks size n = length-parts d blocks n disk is.below (omega (arith, within)) in
     let here : next ≡ part ++ fill = ap (drop (4 * pointers n)) (on_disk d head bytes blocks is n (omega (arith, within)))
     ∙ data-filled size n part blocks in
     let complete : concat (map (data_part d blocks) (range_with_len 0 (n + 1))) ≡ front ++ next =
     ap concat (map-range_with_len_more (data_part d blocks) 0 n n (omega arith))
     ∙ concat-append (map (data_part d blocks) (range_with_len 0 n)) (next ∷ [])
     ∙ ap (λ xs. front ++ xs) (concat-cons next [] ∙ append-nil next) in
-    let all : take len (concat (map (data_part d blocks) (range_with_len 0 (n + 1)))) ≡ take (room size (n + 1)) bytes =
+    let all : take len (concat (map (data_part d blocks) (range_with_len 0 (n + 1)))) ≡ take (bytes_of_blocks size (n + 1)) bytes =
     ap (take len) complete ∙ take-append len front next
     ∙ ap (λ xs. xs ++ take (len - length front) next) earlier
-    ∙ ap (λ xs. take (room size n) bytes ++ xs) (ap (λ k. take (len - k) next) held ∙ ap (take (len - room size n)) here
-    ∙ cut_part (len - room size n) (capacity size n) (drop (room size n) bytes) part fill (length-drop (room size n) bytes) refl refl)
-    ∙ sym (take-add (room size n) (capacity size n) bytes) ∙ ap (λ k. take k bytes) (sym (room_more size n)) in
+    ∙ ap (λ xs. take (bytes_of_blocks size n) bytes ++ xs) (ap (λ k. take (len - k) next) held ∙ ap (take (len - bytes_of_blocks size n)) here
+    ∙ cut_part (len - bytes_of_blocks size n) (capacity size n) (drop (bytes_of_blocks size n) bytes) part fill (length-drop (bytes_of_blocks size n) bytes) refl refl)
+    ∙ sym (take-add (bytes_of_blocks size n) (capacity size n) bytes) ∙ ap (λ k. take k bytes) (sym (room_more size n)) in
     rw number at all
 
 pub laid-content : (d : Disk) (head : ℕ) (bytes blocks : List ℕ) → IsDisk d → IsLaid d head bytes blocks
@@ -112,4 +112,4 @@ pub laid-content : (d : Disk) (head : ℕ) (bytes blocks : List ℕ) → IsDisk 
 unfolding content
 laid-content d head bytes blocks disk is =
     front_held d head bytes blocks disk is (length blocks) (omega arith)
-    ∙ take_all (room d.size (length blocks)) bytes (laid-chain d head bytes blocks disk is).least.0
+    ∙ take_all (bytes_of_blocks d.size (length blocks)) bytes (laid-chain d head bytes blocks disk is).least.0

@@ -11,7 +11,7 @@ use Rattle.std.proofs.lemmas.List.{length-take, take_all}
 use Rattle.std.proofs.lemmas.List.FromFn.{map-range_with_len_more}
 use Rattle.std.proofs.lemmas.List.Folds.{concat-append}
 use Rattle.std.proofs.lemmas.Nat.{from_le_bytes-to_le_bytes_4}
-use Rattle.lfs_file.specs.Capacity.{pointers, capacity, room}
+use Rattle.lfs_file.specs.Capacity.{pointers, capacity, bytes_of_blocks}
 use Rattle.lfs_file.specs.Laying.{filled, laid, laid_pointers, share_of}
 use Rattle.lfs_file.specs.Pointer.{pointer}
 use Rattle.lfs_file.proofs.CapacityLemmas.{pointers_few, room_more}
@@ -133,22 +133,22 @@ laid-more view f n ok all new x before passed pushed is =
     ∙ sym (map-range_with_len_more f 0 n n (omega arith))
 
 -- the bytes that go into block n, and those that are left
-pub part-next : (size n held cut : ℕ) (bytes rest part : List ℕ) → rest ≡ drop (room size n) bytes → held ≡ capacity size n
+pub part-next : (size n held cut : ℕ) (bytes rest part : List ℕ) → rest ≡ drop (bytes_of_blocks size n) bytes → held ≡ capacity size n
     → cut ≡ min held (length rest) → part ≡ take cut rest
     → part ≡ share_of size bytes n
 part-next size n held cut bytes rest part left holds cuts is =
     is ∙ ap (λ k. take k rest) cuts ∙ take_min held rest ∙ ap (λ k. take k rest) holds ∙ ap (take (capacity size n)) left
 
-pub rest-next : (size n held cut : ℕ) (bytes rest later : List ℕ) → rest ≡ drop (room size n) bytes → held ≡ capacity size n
+pub rest-next : (size n held cut : ℕ) (bytes rest later : List ℕ) → rest ≡ drop (bytes_of_blocks size n) bytes → held ≡ capacity size n
     → cut ≡ min held (length rest) → later ≡ drop cut rest
-    → later ≡ drop (room size (n + 1)) bytes
+    → later ≡ drop (bytes_of_blocks size (n + 1)) bytes
 rest-next size n held cut bytes rest later left holds cuts is =
     is ∙ ap (λ k. drop k rest) cuts ∙ drop_min held rest ∙ ap (λ k. drop k rest) holds ∙ ap (drop (capacity size n)) left
-    ∙ drop-drop (capacity size n) (room size n) bytes ∙ ap (λ k. drop k bytes) (sym (room_more size n))
+    ∙ drop-drop (capacity size n) (bytes_of_blocks size n) bytes ∙ ap (λ k. drop k bytes) (sym (room_more size n))
 
--- what block n holds is no more than its room
+-- what block n holds is no more than its bytes_of_blocks
 pub part_fits : (size n : ℕ) (bytes : List ℕ) → length (share_of size bytes n) ≤ capacity size n
-part_fits size n bytes = omega (arith, length-take (capacity size n) (drop (room size n) bytes))
+part_fits size n bytes = omega (arith, length-take (capacity size n) (drop (bytes_of_blocks size n) bytes))
 
 -- all blocks
 pub laid-complete : (size n : ℕ) (bytes blocks : List ℕ) (all : List (List ℕ))

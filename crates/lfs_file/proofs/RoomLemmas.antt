@@ -1,4 +1,4 @@
--- The room in the first blocks of a file in closed form: each of n blocks gives up 8 bytes, but for the first one and for each one bit of n
+-- The bytes_of_blocks in the first blocks of a file in closed form: each of n blocks gives up 8 bytes, but for the first one and for each one bit of n
 -- - 1.
 use Rattle.std.proofs.Common.{◌≡◌, ℕ, zero, suc, ◌+◌, ◌-◌, ◌*◌, ◌/◌, ◌%◌, ◌^◌, ◌<◌, ◌≤◌, ◌==◌, false, count_ones, refl, sym, ap, ◌∙◌, inl}
 use Rattle.std.proofs.Common.{inr, arith}
@@ -7,7 +7,7 @@ use Rattle.std.proofs.lemmas.Nat.{div-add-mod', ones-le}
 use Rattle.std.proofs.lemmas.Bool.{cond-false, ne_eqb}
 use Rattle.std.proofs.Math.Nat.{div-le_self, mod-lt, pow-suc, suc-mul}
 use Rattle.std.proofs.lemmas.Bool.Decides.{eqb_tells}
-use Rattle.lfs_file.specs.Capacity.{capacity, least_blocks, pointers, room}
+use Rattle.lfs_file.specs.Capacity.{capacity, least_blocks, pointers, bytes_of_blocks}
 use Rattle.lfs_file.proofs.CapacityLemmas.{least_is, pointers_few, room_more}
 
 -- counting one further turns the ones at the end into zeros, and the zero before them into a one
@@ -45,35 +45,35 @@ pointers_after n fits =
     omega (arith, ones_after 32 n fits)
 
 -- the bytes that n + 1 blocks hold
-room_is : (share n : ℕ) → 248 ≤ share → n < 2 ^ 32 → room (share + 8) (n + 1) ≡ (n + 1) * share + 8 + 4 * count_ones n
+room_is : (share n : ℕ) → 248 ≤ share → n < 2 ^ 32 → bytes_of_blocks (share + 8) (n + 1) ≡ (n + 1) * share + 8 + 4 * count_ones n
 room_is share zero big fits =
     let none : pointers 0 ≡ 0 = refl in
     omega (arith, room_more (share + 8) 0, ones-le 0 0 (omega arith))
 room_is share (suc n) big fits =
     let number : suc n ≡ n + 1 = omega arith in
-    let earlier : room (share + 8) (n + 1) ≡ (n + 1) * share + 8 + 4 * count_ones n = room_is share n big (omega (arith, fits)) in
-    let more : room (share + 8) (n + 1 + 1) ≡ room (share + 8) (n + 1) + capacity (share + 8) (n + 1) = room_more (share + 8) (n + 1) in
+    let earlier : bytes_of_blocks (share + 8) (n + 1) ≡ (n + 1) * share + 8 + 4 * count_ones n = room_is share n big (omega (arith, fits)) in
+    let more : bytes_of_blocks (share + 8) (n + 1 + 1) ≡ bytes_of_blocks (share + 8) (n + 1) + capacity (share + 8) (n + 1) = room_more (share + 8) (n + 1) in
     let few : pointers (n + 1) ≤ 33 = pointers_few (n + 1) in
     let count : pointers (n + 1) + count_ones (n + 1) ≡ count_ones n + 2 = pointers_after n (omega (arith, fits)) in
     let row : suc (n + 1) * share ≡ (n + 1) * share + share = suc-mul (n + 1) share in
     let rows : (n + 1 + 1) * share ≡ suc (n + 1) * share = ap (λ k. k * share) (omega arith) in
-    let all : room (share + 8) (n + 1 + 1) ≡ (n + 1 + 1) * share + 8 + 4 * count_ones (n + 1) = omega arith in
-    ap (λ k. room (share + 8) (k + 1)) number ∙ all ∙ ap (λ k. (k + 1) * share + 8 + 4 * count_ones k) (sym number)
+    let all : bytes_of_blocks (share + 8) (n + 1 + 1) ≡ (n + 1 + 1) * share + 8 + 4 * count_ones (n + 1) = omega arith in
+    ap (λ k. bytes_of_blocks (share + 8) (k + 1)) number ∙ all ∙ ap (λ k. (k + 1) * share + 8 + 4 * count_ones k) (sym number)
 
 -- more blocks hold no less
-room_rises : (size j i : ℕ) → room size j ≤ room size (j + i)
+room_rises : (size j i : ℕ) → bytes_of_blocks size j ≤ bytes_of_blocks size (j + i)
 room_rises size j zero = let number : j + 0 ≡ j = omega arith in rw number (omega arith)
 room_rises size j (suc i) =
     let number : j + suc i ≡ j + i + 1 = omega arith in
     rw number (omega (arith, room_rises size j i, room_more size (j + i)))
 
 -- n + 1 blocks are the least where they hold a file that n blocks do not hold
-least_next : (size len n : ℕ) → 8 ≤ size → len ≤ room size (n + 1) → room size n < len → n + 1 ≡ least_blocks size len
+least_next : (size len n : ℕ) → 8 ≤ size → len ≤ bytes_of_blocks size (n + 1) → bytes_of_blocks size n < len → n + 1 ≡ least_blocks size len
 least_next size len n big holds less =
     least_is size len (n + 1) big (
       holds,
       λ k below. let number : k + (n - k) ≡ n = omega (arith, below) in
-          let rises : room size k ≤ room size (k + (n - k)) = room_rises size k (n - k) in omega (arith, less, ap (room size) number),
+          let rises : bytes_of_blocks size k ≤ bytes_of_blocks size (k + (n - k)) = room_rises size k (n - k) in omega (arith, less, ap (bytes_of_blocks size) number),
     )
 
 pub least-none : (size : ℕ) → 8 ≤ size → 0 ≡ least_blocks size 0
@@ -83,14 +83,14 @@ pub least-one : (size len : ℕ) → 8 ≤ size → 0 < len → len ≤ size →
 least-one size len big some few = least_next size len 0 big (omega (arith, room_more size 0)) (omega arith)
 
 -- n blocks hold less than a file that is longer than their shares and 136 bytes
-less_held : (share n len : ℕ) → 248 ≤ share → n ≤ 2 ^ 32 → n * share + 136 < len → room (share + 8) n < len
+less_held : (share n len : ℕ) → 248 ≤ share → n ≤ 2 ^ 32 → n * share + 136 < len → bytes_of_blocks (share + 8) n < len
 less_held share zero len big fits long = omega (arith, long)
 less_held share (suc n) len big fits long =
     let number : n + 1 ≡ suc n = omega arith in
-    let held : room (share + 8) (n + 1) ≡ (n + 1) * share + 8 + 4 * count_ones n = room_is share n big (omega (arith, fits)) in
+    let held : bytes_of_blocks (share + 8) (n + 1) ≡ (n + 1) * share + 8 + 4 * count_ones n = room_is share n big (omega (arith, fits)) in
     let few : count_ones n ≤ 32 = ones-le 32 n (omega (arith, fits)) in
     let rows : (n + 1) * share ≡ suc n * share = ap (λ k. k * share) number in
-    let less : room (share + 8) (n + 1) < len = omega (arith, held, few, rows, long) in
+    let less : bytes_of_blocks (share + 8) (n + 1) < len = omega (arith, held, few, rows, long) in
     rw number at less
 
 -- a file that its last share of n + 1 leaves to the bytes of the ones takes n + 1 blocks

@@ -14,7 +14,7 @@ use Rattle.lfs_file.specs.Capacity.{IsLeast, least_blocks, least_from}
 use Rattle.lfs_file.specs.Pointer.{pointer}
 use Rattle.lfs_block.specs.declared.mount_fault.MountFault.{MountFault}
 use Rattle.lfs_block.specs.declared.mount_fault.MountFault.TheVariants.{BadSkipList, Memory}
-use Rattle.lfs_file.specs.SkipList.{ChainCause, IsChain, WalkCause, walk, is_linked, is_linked_at, chain_of}
+use Rattle.lfs_file.specs.SkipList.{ChainCause, IsChain, ChainWalkCause, walk, is_linked, is_linked_at, chain_of}
 use Rattle.lfs_file.specs.Laws.{AgreeOn}
 use Rattle.lfs_file.proofs.CapacityLemmas.{least_blocks-is, least_is}
 use Rattle.lfs_file.proofs.SkipListLemmas.{IsLinkedAt, later_at, linked-false, linked-true, linked-from, linked_at-from, before, apart}
@@ -227,7 +227,7 @@ walk-none d block n items none = ap (λ m. walk d block m ++ items) none
 
 -- a refused walk is a refused chain
 pub ChainCause-from_walk : (fault : MountFault) (d : Disk) (head len n : ℕ) → 8 ≤ d.size → n ≡ least_blocks d.size len
-    → WalkCause fault d head n → ChainCause fault d head len
+    → ChainWalkCause fault d head n → ChainCause fault d head len
 ChainCause-from_walk BadSkipList d head len n big is fails =
     let no = none-unlinked d head len n (walk d head n) big is refl fails in (no.none, no.no)
 ChainCause-from_walk Memory d head len n big is fails = tt

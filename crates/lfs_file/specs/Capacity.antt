@@ -12,17 +12,17 @@ abbrev pub capacity : ℕ → ℕ → ℕ
 capacity size n = size - 4 * pointers n
 
 -- the bytes that the first n blocks hold
-abbrev pub room : ℕ → ℕ → ℕ
-room size n = sum (map (capacity size) (range_with_len 0 n))
+abbrev pub bytes_of_blocks : ℕ → ℕ → ℕ
+bytes_of_blocks size n = sum (map (capacity size) (range_with_len 0 n))
 
 -- n blocks hold len bytes, and no fewer blocks do
 abbrev pub IsLeast : ℕ → ℕ → ℕ → Type 0
-IsLeast size len n = (len ≤ room size n) × ((k : ℕ) → k < n → room size k < len)
+IsLeast size len n = (len ≤ bytes_of_blocks size n) × ((k : ℕ) → k < n → bytes_of_blocks size k < len)
 
 -- the first number of blocks, from n on, that holds len bytes; n + steps where none below it does (own)
 unfoldable pub least_from : ℕ → ℕ → ℕ → ℕ → ℕ
 least_from size len n zero = n
-least_from size len n (suc steps) = if nat_le len (room size n) then n else least_from size len (n + 1) steps
+least_from size len n (suc steps) = if nat_le len (bytes_of_blocks size n) then n else least_from size len (n + 1) steps
 
 -- the least number of blocks that holds len bytes (own): never more than len, since two blocks in a row hold 4 bytes or more
 unfoldable pub least_blocks : ℕ → ℕ → ℕ

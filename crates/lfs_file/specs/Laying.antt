@@ -4,7 +4,7 @@ use Rattle.std.specs.Prelude.{AllPairs}
 use Rattle.std.specs.Int.{w32, to_le_bytes}
 use Rattle.std.specs.List.{concat, range_with_len}
 use Rattle.lfs_block.specs.Disk.{Disk, block_of}
-use Rattle.lfs_file.specs.Capacity.{capacity, least_blocks, pointers, room}
+use Rattle.lfs_file.specs.Capacity.{capacity, least_blocks, pointers, bytes_of_blocks}
 
 -- the first k pointers of block n of a chain: pointer i names the block 2 ^ i before it, low byte first
 unfoldable pub laid_pointers : List ℕ → ℕ → ℕ → List ℕ
@@ -16,7 +16,7 @@ filled size part blocks n = laid_pointers blocks n (pointers n) ++ part ++ repli
 
 -- the bytes of a file that block n holds
 abbrev pub share_of : ℕ → List ℕ → ℕ → List ℕ
-share_of size bytes n = take (capacity size n) (drop (room size n) bytes)
+share_of size bytes n = take (capacity size n) (drop (bytes_of_blocks size n) bytes)
 
 -- the blocks of a file of these bytes, in order
 unfoldable pub laid : ℕ → List ℕ → List ℕ → List (List ℕ)

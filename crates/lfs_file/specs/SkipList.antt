@@ -51,7 +51,7 @@ ChainCause Memory d head len = Unit {0}
 ChainCause _ d head len = ⊥
 
 -- why no walk is given: one of its blocks is not on the disk, or memory is refused (own)
-abbrev pub WalkCause : MountFault → Disk → ℕ → ℕ → Type 0
-WalkCause BadSkipList d block n = is_linked d (walk d block n) ≡ false
-WalkCause Memory d block n = Unit {0}
-WalkCause _ d block n = ⊥
+abbrev pub ChainWalkCause : MountFault → Disk → ℕ → ℕ → Type 0
+ChainWalkCause BadSkipList d block n = is_linked d (walk d block n) ≡ false
+ChainWalkCause Memory d block n = Unit {0}
+ChainWalkCause _ d block n = ⊥

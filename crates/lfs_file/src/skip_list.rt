@@ -3,7 +3,7 @@
 ghost use Rattle.std.specs.Prelude.{◌≡◌, ◌<◌, ◌≤◌, ◌^◌, length, slice_index, All, IfOk, IfErr, IfNone, IfSome, Some};
 ghost use Rattle.lfs_block.specs.Disk.{IsDisk};
 ghost use Rattle.lfs_file.specs.Capacity.{least_blocks};
-ghost use Rattle.lfs_file.specs.SkipList.{IsChain, ChainCause, WalkCause, chain_of, is_linked, is_linked_at, points_back, walk};
+ghost use Rattle.lfs_file.specs.SkipList.{IsChain, ChainCause, ChainWalkCause, chain_of, is_linked, is_linked_at, points_back, walk};
 
 use crate::capacity::{blocks_for, pointers_of};
 use crate::pointer::pointer_at;
@@ -31,7 +31,7 @@ fn walk_back<B: Blocks>(
     requires disk { IsDisk (B.disk blocks.now) }
     ensures found { IfOk result (λ chain. chain.items ≡ walk (B.disk blocks.now) head count) }
     ensures below { IfOk result (λ chain. All (λ b. b < (B.disk blocks.now).count) chain.items) }
-    ensures refused { IfErr result (λ fault. WalkCause fault (B.disk blocks.now) head count) }
+    ensures refused { IfErr result (λ fault. ChainWalkCause fault (B.disk blocks.now) head count) }
 {
     let mut chain = Vec::with_capacity(alloc, count as usize).map_err(|_| MountFault::Memory)?;
     let mut block = head;

@@ -4,7 +4,7 @@ use Rattle.std.proofs.Math.Nat.{mul-pos}
 use Rattle.lfs_block.specs.Disk.{Disk, IsDisk, image_of}
 use Rattle.lfs_block.proofs.BytesLemmas.{image_of_disk}
 use Rattle.lfs_find.specs.Place.{IsFirstPlace}
-use Rattle.lfs_find.specs.Found.{AreFound, IsFoundAt, IsReadAt, IsVerdict, behind, count_by, passed_over}
+use Rattle.lfs_find.specs.Found.{AreFoundFrom, IsFoundAt, IsReadAt, IsVerdict, searched_from, count_by, passed_over}
 use Rattle.lfs_find.specs.declared.found.Found.{Found}
 use Rattle.lfs_find.specs.declared.place.Place.{Place}
 use Rattle.lfs_find.specs.declared.unmounted.Unmounted.{Unmounted}
@@ -24,19 +24,19 @@ pub passed_some : (bytes : List ℕ) (found : Found) → IsFoundAt bytes found
 passed_some bytes found is =
     passed found (image_of found.place.size is.image) found.fault refl is.verdict is.count
 
--- so many are found, and what is found from a byte on is what is found behind them
+-- so many are found, and what is found from a byte on is what is found searched_from them
 abbrev pub GoesOn : List ℕ → List Found → ℕ → Type 0
-GoesOn bytes found from = (more : List Found) → AreFound bytes from more → AreFound bytes 0 (found ++ more)
+GoesOn bytes found from = (more : List Found) → AreFoundFrom bytes from more → AreFoundFrom bytes 0 (found ++ more)
 
 -- one more is found
 pub one_more : (bytes : List ℕ) (found : List Found) (from : ℕ) (here : Found) → GoesOn bytes found from
-    → IsFirstPlace bytes from here.place → IsFoundAt bytes here → GoesOn bytes (found ++ here ∷ []) (behind here)
+    → IsFirstPlace bytes from here.place → IsFoundAt bytes here → GoesOn bytes (found ++ here ∷ []) (searched_from here)
 one_more bytes found from here on first is more are =
-    subst (AreFound bytes 0) (sym (append_assoc found (here ∷ []) more)) (on (here ∷ more) (first, is, are))
+    subst (AreFoundFrom bytes 0) (sym (append_assoc found (here ∷ []) more)) (on (here ∷ more) (first, is, are))
 
 -- no more are
-pub no_more : (bytes : List ℕ) (found : List Found) (from : ℕ) → GoesOn bytes found from → AreFound bytes from [] → AreFound bytes 0 found
-no_more bytes found from on none = subst (AreFound bytes 0) (append-nil found) (on [] none)
+pub no_more : (bytes : List ℕ) (found : List Found) (from : ℕ) → GoesOn bytes found from → AreFoundFrom bytes from [] → AreFoundFrom bytes 0 found
+no_more bytes found from on none = subst (AreFoundFrom bytes 0) (append-nil found) (on [] none)
 
 -- ---- what is found at one place
 

@@ -3,7 +3,7 @@ use Rattle.std.proofs.Common.{◌≡◌, ◌⊎◌, inl, inr, ℕ, ◌+◌, ◌<
 use Rattle.std.proofs.lemmas.Option.{cond_some, option_and_then_some}
 use Rattle.std.proofs.lemmas.Bool.{cases_order}
 use Rattle.lfs_lower.specs.Words.{superblock_words}
-use Rattle.lfs_find.specs.Place.{HoldsNone, IsFirstPlace, fits_in, place_at, place_in, place_of}
+use Rattle.lfs_find.specs.Place.{HoldsNone, IsFirstPlace, fits_in, place_at, place_in, stated_place}
 use Rattle.lfs_find.specs.declared.place.Place.{Place}
 
 guarded : (b : Bool) (o : Option Place) (p : Place) → cond b None o ≡ Some p → o ≡ Some p
@@ -12,8 +12,8 @@ guarded false o p e = e
 
 in_words : (at room : ℕ) (words : List ℕ) (p : Place) → place_in at room words ≡ Some p → p.at ≡ at
 in_words at room words p e =
-    let found = cond_some (fits_in room (place_of at words)) (place_of at words) p
-    (guarded (ltb (length words) 12) (cond (fits_in room (place_of at words)) (Some (place_of at words)) None) p e) in
+    let found = cond_some (fits_in room (stated_place at words)) (stated_place at words) p
+    (guarded (ltb (length words) 12) (cond (fits_in room (stated_place at words)) (Some (stated_place at words)) None) p e) in
     ap (λ (q : Place). q.at) (sym found.1)
 
 -- a place stands where it was looked for

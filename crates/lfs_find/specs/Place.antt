@@ -6,8 +6,8 @@ use Rattle.lfs_lower.specs.Words.{superblock_words}
 use Rattle.lfs_find.specs.declared.place.Place.{Place}
 
 -- what the words of a superblock's struct state that stands at a place: version, block size and number of blocks
-abbrev pub place_of : ℕ → List ℕ → Place
-place_of at words = record {
+abbrev pub stated_place : ℕ → List ℕ → Place
+stated_place at words = record {
   at = at;
   version = from_le_bytes w32 words;
   size = from_le_bytes w32 (drop 4 words);
@@ -22,7 +22,7 @@ fits_in room p = is_geometry p.size p.count && nat_le (p.count * p.size) room
 abbrev pub place_in : ℕ → ℕ → List ℕ → Option Place
 place_in at room words =
     if nat_lt (length words) 12 then None
-    else if fits_in room (place_of at words) then Some (place_of at words) else None
+    else if fits_in room (stated_place at words) then Some (stated_place at words) else None
 
 -- the place at a byte of a file: what begins there begins as a block with a superblock does, and all that is left is its room
 abbrev pub place_at : List ℕ → ℕ → Option Place

@@ -1,7 +1,7 @@
 //! Finding the images that stand in a file.
 
 ghost use Rattle.std.specs.Prelude.{◌≡◌, ◌<◌, ◌^◌, IfOk};
-ghost use Rattle.lfs_find.specs.Found.{AreFound, behind};
+ghost use Rattle.lfs_find.specs.Found.{AreFoundFrom, searched_from};
 
 use crate::found::Found;
 use crate::judging::found_at;
@@ -10,8 +10,8 @@ use std::alloc::{AllocError, Global};
 
 /// The byte from which the search goes on behind what was found: its end where it mounts, and else the next one.
 fn behind(found: &Found) -> usize
-    requires { behind found.now < 2 ^ 64 }
-    ensures { result ≡ behind found.now }
+    requires { searched_from found.now < 2 ^ 64 }
+    ensures { result ≡ searched_from found.now }
 {
     let passed_over = match found.fault {
         None => found.count as usize * found.place.size as usize,
@@ -25,7 +25,7 @@ fn behind(found: &Found) -> usize
 /// device reads it, of as many bytes as its superblock states, and is mounted. Behind one that mounts the search goes on at its end, and
 /// behind any other a byte further. Takes memory.
 pub fn find_images(alloc: Global, bytes: &[u8]) -> Result<Vec<Found>, AllocError>
-    ensures { IfOk result (λ found. AreFound bytes.now 0 found.items) }
+    ensures { IfOk result (λ found. AreFoundFrom bytes.now 0 found.items) }
 {
     let mut found = Vec::new(alloc);
     let mut from = 0;

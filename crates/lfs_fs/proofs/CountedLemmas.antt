@@ -10,7 +10,7 @@ use Rattle.lfs_fs.specs.Volume.{Volume}
 use Rattle.lfs_fs.specs.Row.{Row}
 use Rattle.lfs_fs.specs.Listed.{Listed, path_after, rows_after}
 use Rattle.lfs_fs.specs.Placed.{listed_at, rows_of}
-use Rattle.lfs_fs.specs.Ordered.{AreCounted, files_of}
+use Rattle.lfs_fs.specs.Ordered.{AreCounted, file_count_of}
 
 one_of : (b : Bool) → cond {A = ℕ} b 1 0 + cond {A = ℕ} (not b) 1 0 ≡ 1
 one_of true = refl
@@ -33,7 +33,7 @@ length_rows q (x ∷ xs) = omega (arith, length_rows (path_after q x.depth x.ent
 
 -- the places that aren't of directories are of files
 pub files_left : (v : Volume) (places : List Place) → AreCounted v (rows_of v places)
-    → (length v.directories ≤ length places) × (length places - length v.directories ≡ files_of v)
+    → (length v.directories ≤ length places) × (length places - length v.directories ≡ file_count_of v)
     × (length places - length v.directories ≡ count_by (λ (r : Row). not (leads r.entry)) (rows_of v places))
 files_left v places counted =
     let all = both_counts (λ (r : Row). leads r.entry) (rows_of v places) in

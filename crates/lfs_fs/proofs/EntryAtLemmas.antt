@@ -11,7 +11,7 @@ use Rattle.lfs_meta.specs.Name.{Name}
 use Rattle.lfs_meta.specs.Body.{Pair}
 use Rattle.lfs_fs.specs.NameOrder.{precedes}
 use Rattle.lfs_fs.specs.Path.{Path}
-use Rattle.lfs_fs.specs.Graph.{step, walk}
+use Rattle.lfs_fs.specs.Graph.{entry_within, walk}
 use Rattle.lfs_fs.specs.Entry.{Entry, target, is_named}
 use Rattle.lfs_fs.specs.Directory.{Directory, entries, begins_at}
 use Rattle.lfs_fs.specs.Volume.{Volume}
@@ -36,23 +36,23 @@ by_last_name P none more p = onwards P more [] p none
 pub walk-append : {K N E : Type 0} (target : E → Option K) (edge : K → N → Option E) (here : Option E) (p q : List N)
     → walk target edge here (p ++ q) ≡ walk target edge (walk target edge here p) q
 walk-append target edge here [] q = refl
-walk-append target edge here (n ∷ p) q = walk-append target edge (step target edge n here) p q
+walk-append target edge here (n ∷ p) q = walk-append target edge (entry_within target edge n here) p q
 
 pub led_some : {K N E : Type 0} (edge : K → N → Option E) (n : N) (f : E) (o : Option K) → option_and_then (λ k. edge k n) o ≡ Some f
     → (k : K) × (o ≡ Some k) × (edge k n ≡ Some f)
 led_some edge n f None h = absurd (none-some f h)
 led_some edge n f (Some k) h = (k, refl, h)
 
--- where a step comes from
+-- where a entry_within comes from
 pub step_some : {K N E : Type 0} (target : E → Option K) (edge : K → N → Option E) (n : N) (here : Option E) (f : E)
-    → step target edge n here ≡ Some f → (e : E) × (k : K) × (here ≡ Some e) × (target e ≡ Some k) × (edge k n ≡ Some f)
+    → entry_within target edge n here ≡ Some f → (e : E) × (k : K) × (here ≡ Some e) × (target e ≡ Some k) × (edge k n ≡ Some f)
 step_some target edge n None f h = absurd (none-some f h)
 step_some target edge n (Some e) f h = let led = led_some edge n f (target e) h in (e, led.0, refl, led.1, led.2)
 
 -- where an entry leads, and what it leads to has under a name
 step_to : {K N E : Type 0} (target : E → Option K) (edge : K → N → Option E) (n : N) (here : Option E) (e : E) (o : Option K)
-    → here ≡ Some e → target e ≡ o → step target edge n here ≡ option_and_then (λ k. edge k n) o
-step_to target edge n here e o is leads = ap (step target edge n) is ∙ ap (option_and_then (λ k. edge k n)) leads
+    → here ≡ Some e → target e ≡ o → entry_within target edge n here ≡ option_and_then (λ k. edge k n) o
+step_to target edge n here e o is leads = ap (entry_within target edge n) is ∙ ap (option_and_then (λ k. edge k n)) leads
 
 -- ---- the entries of a directory
 

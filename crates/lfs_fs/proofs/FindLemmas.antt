@@ -5,7 +5,7 @@ use Rattle.std.specs.Option.{option_or}
 use Rattle.std.proofs.lemmas.List.Concat.{flat_map-cons}
 use Rattle.std.proofs.lemmas.List.Folds.{find-append}
 use Rattle.lfs_meta.specs.Name.{Name}
-use Rattle.lfs_fs.specs.Graph.{step, walk}
+use Rattle.lfs_fs.specs.Graph.{entry_within, walk}
 use Rattle.lfs_fs.specs.Entry.{Entry, target}
 use Rattle.lfs_fs.specs.Directory.{Part, Directory}
 use Rattle.lfs_fs.specs.Tree.{entry_in}
@@ -50,7 +50,7 @@ nowhere ds (n ∷ ns) = nowhere ds ns
 
 -- one name further down
 pub down_one : (ds : List Directory) (here : Option Entry) (names : List Name) (i : ℕ) (n : Name) (below complete : Option Entry)
-    → i < length names → n ≡ get_or names i n → below ≡ step target (entry_in ds) n here
+    → i < length names → n ≡ get_or names i n → below ≡ entry_within target (entry_in ds) n here
     → walk target (entry_in ds) here (drop i names) ≡ complete → walk target (entry_in ds) below (drop (i + 1) names) ≡ complete
 down_one ds here names i n below complete within at is same =
     ap (λ o. walk target (entry_in ds) o (drop (i + 1) names)) is ∙ ap (λ ns. walk target (entry_in ds) here ns)

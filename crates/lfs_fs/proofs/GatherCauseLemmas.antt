@@ -34,7 +34,7 @@ use Rattle.lfs_fs.specs.Cause.{HasCause}
 use Rattle.lfs_fs.specs.Outlined.{outlined_entry, outlined_directory, outlined_directories}
 use Rattle.lfs_fs.specs.Gathering.{PairPart, delta_from, StateCause, NamesFall, HasNoChain, LeadsPast, EntryFault, PartsCause}
 use Rattle.lfs_fs.specs.ThreadRead.{pairs_of, IsPartRead}
-use Rattle.lfs_fs.specs.Judged.{SaysLimits, SaysBytes, JudgedCause, with_entries}
+use Rattle.lfs_fs.specs.Judged.{SaysLimits, IsSuperblockWith, JudgedCause, with_entries}
 use Rattle.lfs_fs.proofs.CountLemmas.{element_le}
 use Rattle.lfs_fs.proofs.ThreadReadLemmas.{no_header}
 use Rattle.lfs_fs.proofs.OutlinedLemmas.{outlined_entries}
@@ -100,7 +100,7 @@ e_stored r p e others rest h = record {
 }
 
 says_wrong : (r : Reading) (p : PairPart) (e : StoredEntry) (others : List StoredEntry) (rest : List PairPart)
-    (these : List ℕ → Type 0) → RootRead r p e others rest → SaysBytes e these → SuperblockIs r these
+    (these : List ℕ → Type 0) → RootRead r p e others rest → IsSuperblockWith e these → SuperblockIs r these
 says_wrong r p e others rest these h says = record {
   bytes = says.bytes;
   attributes = e.attributes;

@@ -9,7 +9,7 @@ use Rattle.std.proofs.lemmas.List.Elements.{All-cons, All-nil, All-head, All-tai
 use Rattle.std.proofs.lemmas.List.Sums.{sum_by-cons}
 use Rattle.lfs_meta.specs.Name.{Name}
 use Rattle.lfs_meta.specs.Body.{Pair}
-use Rattle.lfs_fs.specs.Graph.{step, walk}
+use Rattle.lfs_fs.specs.Graph.{entry_within, walk}
 use Rattle.lfs_fs.specs.Path.{Path}
 use Rattle.lfs_fs.specs.Pair.{root}
 use Rattle.lfs_fs.specs.NameOrder.{precedes}
@@ -174,8 +174,8 @@ pub step_on : (ds : List Directory) (n : Name) (o : Option Pair) → option_and_
 step_on ds n None = refl
 step_on ds n (Some k) = entry_in_same ds k n
 
-step_same : (ds : List Directory) (n : Name) (here : Option Entry) → step target (entry_in (outlined_directories ds)) n
-    (option_map outlined_entry here) ≡ option_map outlined_entry (step target (entry_in ds) n here)
+step_same : (ds : List Directory) (n : Name) (here : Option Entry) → entry_within target (entry_in (outlined_directories ds)) n
+    (option_map outlined_entry here) ≡ option_map outlined_entry (entry_within target (entry_in ds) n here)
 step_same ds n None = refl
 step_same ds n (Some e) = ap (option_and_then (λ k. entry_in (outlined_directories ds) k n)) (outlined_target e) ∙ step_on ds n (target e)
 
@@ -185,7 +185,7 @@ pub walk_same : (ds : List Directory) (here : Option Entry) (path : Path)
 walk_same ds here [] = refl
 walk_same ds here (n ∷ ns) =
     ap (λ (o : Option Entry). walk target (entry_in (outlined_directories ds)) o ns) (step_same ds n here)
-    ∙ walk_same ds (step target (entry_in ds) n here) ns
+    ∙ walk_same ds (entry_within target (entry_in ds) n here) ns
 
 pub outlined_at : (v : Volume) (path : Path) → entry_at (outlined v) path ≡ option_map outlined_entry (entry_at v path)
 outlined_at v path = walk_same v.directories (Some (top v)) path

@@ -14,7 +14,7 @@ use Rattle.lfs_fs.specs.Pair.{root}
 use Rattle.lfs_fs.specs.Cause.{HasCause}
 use Rattle.lfs_fs.specs.Front.{IsFront}
 use Rattle.lfs_fs.specs.Header.{HeaderCause, IsHeader}
-use Rattle.lfs_fs.specs.Judged.{SaysBytes}
+use Rattle.lfs_fs.specs.Judged.{IsSuperblockWith}
 use Rattle.lfs_fs.specs.Reading.{Reading, reading_of}
 use Rattle.lfs_fs.specs.Superblock.{HasSuperblock, IsSuperblock, superblock_entry}
 use Rattle.lfs_fs.specs.SuperblockCause.{SuperblockIs}
@@ -50,7 +50,7 @@ has_superblock r s e others bytes read entries is = record {
 }
 
 wrong_words : (r : Reading) (s : StoredPart) (e : StoredEntry) (others : List StoredEntry) (these : List ℕ → Type 0)
-    → r.part root ≡ Some s → s.entries ≡ e ∷ others → SaysBytes e these → SuperblockIs r these
+    → r.part root ≡ Some s → s.entries ≡ e ∷ others → IsSuperblockWith e these → SuperblockIs r these
 wrong_words r s e others these read entries says = record {
   bytes = says.bytes;
   attributes = e.attributes;
@@ -109,7 +109,7 @@ root_unread d f two cause = unread_pair d f [] root (root_front (reading_of d) t
 
 -- a superblock with other words isn't there
 no_wrong : (r : Reading) (s : StoredPart) (e : StoredEntry) (others : List StoredEntry) (good these : List ℕ → Type 0)
-    → r.part root ≡ Some s → s.entries ≡ e ∷ others → SaysBytes e good → ((bytes : List ℕ) → good bytes → these bytes → ⊥)
+    → r.part root ≡ Some s → s.entries ≡ e ∷ others → IsSuperblockWith e good → ((bytes : List ℕ) → good bytes → these bytes → ⊥)
     → SuperblockIs r these → ⊥
 no_wrong r s e others good these read entries says not_both wrong =
     let same = first_is r s e others wrong.bytes wrong.attributes read entries wrong.superblock in

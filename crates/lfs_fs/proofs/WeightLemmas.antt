@@ -5,7 +5,7 @@ use Rattle.std.specs.List.{AllZip}
 use Rattle.lfs_meta.specs.Body.{StoredBody, Inline, Chain as Stored_chain, Directory_at as Stored_directory}
 use Rattle.lfs_meta.specs.Entry.{StoredEntry}
 use Rattle.lfs_meta.specs.Body.{body_bytes}
-use Rattle.lfs_meta.specs.Weighing.{weight as stored_weight}
+use Rattle.lfs_meta.specs.Weighing.{weight_as_stored as stored_weight}
 use Rattle.lfs_meta.proofs.RunLemmas.{runs_match}
 use Rattle.lfs_fs.specs.Entry.{Entry}
 use Rattle.lfs_fs.specs.Weight.{body_weight, weight}

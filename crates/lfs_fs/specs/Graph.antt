@@ -4,10 +4,10 @@ use Rattle.std.specs.Prelude.{List, [], ◌∷◌, Option}
 use Rattle.std.specs.Option.{option_and_then}
 
 -- the entry under a name in the place that an entry leads to
-abbrev pub step : {K N E : Type 0} → (E → Option K) → (K → N → Option E) → N → Option E → Option E
-step target edge n here = option_and_then (λ e. option_and_then (λ k. edge k n) (target e)) here
+abbrev pub entry_within : {K N E : Type 0} → (E → Option K) → (K → N → Option E) → N → Option E → Option E
+entry_within target edge n here = option_and_then (λ e. option_and_then (λ k. edge k n) (target e)) here
 
 -- the entry at a path
 abbrev pub walk : {K N E : Type 0} → (E → Option K) → (K → N → Option E) → Option E → List N → Option E
 walk target edge here [] = here
-walk target edge here (n ∷ ns) = walk target edge (step target edge n here) ns
+walk target edge here (n ∷ ns) = walk target edge (entry_within target edge n here) ns

@@ -19,7 +19,7 @@ pub record SaysLimits (size count : ℕ) (limits : Limits) (e : StoredEntry) : T
   pub fit : AreAttributes limits.attribute e.attributes
 
 -- an entry is a superblock with such bytes
-pub record SaysBytes (e : StoredEntry) (these : List ℕ → Type 0) : Type 0 where
+pub record IsSuperblockWith (e : StoredEntry) (these : List ℕ → Type 0) : Type 0 where
   pub bytes : List ℕ
   pub is : IsSuperblock e bytes
   pub says : these bytes
@@ -27,8 +27,8 @@ pub record SaysBytes (e : StoredEntry) (these : List ℕ → Type 0) : Type 0 wh
 -- why it isn't
 abbrev pub JudgedCause : MountFault → ℕ → ℕ → StoredEntry → Type 0
 JudgedCause NoSuperblock size count e = (bytes : List ℕ) → IsSuperblock e bytes → ⊥
-JudgedCause BadSize size count e = SaysBytes e (λ bytes. Any (λ a. (header_of bytes []).limits.attribute < length a.1) e.attributes)
-JudgedCause fault size count e = SaysBytes e (λ bytes. HeaderCause fault size count bytes)
+JudgedCause BadSize size count e = IsSuperblockWith e (λ bytes. Any (λ a. (header_of bytes []).limits.attribute < length a.1) e.attributes)
+JudgedCause fault size count e = IsSuperblockWith e (λ bytes. HeaderCause fault size count bytes)
 
 -- a part with other entries
 abbrev pub with_entries : PairPart → List StoredEntry → PairPart

@@ -30,13 +30,13 @@ pub record IsWalkable (v : Volume) : Type 0 where
   pub order : All (λ d. Rise (entries d)) v.directories
 
 -- how many of a volume's entries lead to no directory
-abbrev pub files_of : Volume → ℕ
-files_of v = sum_by (λ d. count_by (λ e. not (leads e)) (entries d)) v.directories
+abbrev pub file_count_of : Volume → ℕ
+file_count_of v = sum_by (λ d. count_by (λ e. not (leads e)) (entries d)) v.directories
 
 -- as many rows show directories as there are, and as many show files as there are
 pub record AreCounted (v : Volume) (rows : List Row) : Type 0 where
   pub directories : count_by (λ r. leads r.entry) rows ≡ length v.directories
-  pub files : count_by (λ r. not (leads r.entry)) rows ≡ files_of v
+  pub files : count_by (λ r. not (leads r.entry)) rows ≡ file_count_of v
 
 -- the rows are the volume's, each of whose directories is named once and reached
 pub record IsListed (v : Volume) (rows : List Row) : Type 0 where
@@ -150,7 +150,7 @@ pub record IsWalking (v : Volume) (table : List (Pair × ℕ)) (order waiting : 
 -- ---- steps of a walk
 
 -- a directory is opened, which wasn't
-pub record Opens (table : List (Pair × ℕ)) (k : Pair) (opened more : List Bool) (i : ℕ) : Type 0 where
+pub record OpensDirectory (table : List (Pair × ℕ)) (k : Pair) (opened more : List Bool) (i : ℕ) : Type 0 where
   pub there : look_up k table ≡ Some i
   pub new : slice_get opened i ≡ Some false
   pub noted : more ≡ set opened i true
@@ -166,7 +166,7 @@ pub record Enters (ds : List Directory) (table : List (Pair × ℕ)) (k : Pair) 
     (waiting longer : List Place) : Type 0 where
   pub index : ℕ
   pub directory : Directory
-  pub opens : Opens table k opened more index
+  pub opens : OpensDirectory table k opened more index
   pub there : slice_get ds index ≡ Some directory
   pub begins : begins_at k directory ≡ true
   pub pushed : longer ≡ places_in depth index 0 (parts directory) ++ waiting

@@ -6,7 +6,7 @@ use Rattle.lfs_block.specs.declared.mount_fault.MountFault.TheVariants.{NoSuperb
 use Rattle.lfs_meta.specs.Entry.{StoredEntry}
 use Rattle.lfs_fs.specs.Cause.{HasCause}
 use Rattle.lfs_fs.specs.Header.{HeaderCause, IsHeader}
-use Rattle.lfs_fs.specs.Judged.{SaysBytes}
+use Rattle.lfs_fs.specs.Judged.{IsSuperblockWith}
 use Rattle.lfs_fs.specs.Superblock.{IsSuperblock}
 
 -- a fault of the superblock itself: there is none, or one of its words is wrong
@@ -28,7 +28,7 @@ HasGoodSuperblock d = (cause : MountFault) → IsOfSuperblock cause → HasCause
 -- why an entry is no superblock of an image of `count` blocks of `size` bytes
 abbrev pub HeaderRefused : MountFault → ℕ → ℕ → StoredEntry → Type 0
 HeaderRefused NoSuperblock size count e = (bytes : List ℕ) → IsSuperblock e bytes → ⊥
-HeaderRefused fault size count e = SaysBytes e (λ bytes. HeaderCause fault size count bytes)
+HeaderRefused fault size count e = IsSuperblockWith e (λ bytes. HeaderCause fault size count bytes)
 
 -- why the first entry of a part is none
 abbrev pub FirstRefused : MountFault → ℕ → ℕ → List StoredEntry → Type 0
@@ -38,7 +38,7 @@ FirstRefused fault size count (e ∷ es) = HeaderRefused fault size count e
 
 -- an entry is one
 abbrev pub HeaderTaken : ℕ → ℕ → StoredEntry → Type 0
-HeaderTaken size count e = SaysBytes e (λ bytes. IsHeader size count bytes)
+HeaderTaken size count e = IsSuperblockWith e (λ bytes. IsHeader size count bytes)
 
 -- and the first entry of a part
 abbrev pub FirstTaken : ℕ → ℕ → List StoredEntry → Type 0

@@ -2,7 +2,7 @@
 
 ghost use Rattle.std.specs.Prelude.{◌≡◌, Some, find, map};
 ghost use Rattle.std.specs.Option.{option_map};
-ghost use Rattle.lfs_fs.specs.Graph.{step};
+ghost use Rattle.lfs_fs.specs.Graph.{entry_within};
 ghost use Rattle.lfs_fs.specs.Entry.{target};
 ghost use Rattle.lfs_fs.specs.Directory.{begins_at};
 ghost use Rattle.lfs_fs.specs.Tree.{entry_in, entry_at};
@@ -39,7 +39,7 @@ pub fn entry_in<'a>(
 
 /// The entry under a name, below what stands somewhere.
 fn below<'a>(outline: &'a Outline, here: &Found<'_>, name: &[u8]) -> Option<&'a OutlineEntry>
-    ensures { option_map (λ e. e.now) result ≡ step target (entry_in outline.now.directories) name.now (Some (seen outline.now here.now)) }
+    ensures { option_map (λ e. e.now) result ≡ entry_within target (entry_in outline.now.directories) name.now (Some (seen outline.now here.now)) }
 {
     let pair = here.target()?;
     entry_in(&outline.directories, pair, name)

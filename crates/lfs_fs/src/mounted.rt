@@ -49,7 +49,7 @@ impl Mounted {
     ghost use Rattle.lfs_fs.specs.Seen.{seen};
     ghost use Rattle.lfs_fs.specs.Entry.{leads};
     ghost use Rattle.lfs_fs.specs.Listed.{rows_listed};
-    ghost use Rattle.lfs_fs.specs.Ordered.{AreCounted, files_of};
+    ghost use Rattle.lfs_fs.specs.Ordered.{AreCounted, file_count_of};
     ghost use Rattle.lfs_fs.specs.Placed.{ArePlaces, rows_of};
     ghost use Rattle.lfs_fs.specs.Unused.{unused};
 
@@ -133,7 +133,7 @@ impl Mounted {
 
     /// The number of files: of entries that lead to no directory, and of rows that show one.
     pub fn files(&self) -> usize
-        ensures outline { result ≡ files_of self.now.outline }
+        ensures outline { result ≡ file_count_of self.now.outline }
         ensures rows { result ≡ count_by (λ row. not (leads row.entry)) self.now.rows }
     {
         self.order.len() - self.outline.directory_count()

@@ -5,7 +5,7 @@ ghost use Rattle.std.specs.Prelude.{IfSome};
 ghost use Rattle.lfs_block.specs.declared.mount_fault.MountFault.TheVariants as MountFault;
 ghost use Rattle.lfs_fs.specs.DirectoryTable.{look_up};
 ghost use Rattle.lfs_fs.specs.DirectoryTable.{IsTableOf};
-ghost use Rattle.lfs_fs.specs.Ordered.{Enters, IsWalking, NotOpened, Opens, WalkCause, work};
+ghost use Rattle.lfs_fs.specs.Ordered.{Enters, IsWalking, NotOpened, OpensDirectory, WalkCause, work};
 
 use crate::outline::Outline;
 use crate::place::Place;
@@ -35,7 +35,7 @@ fn open(
     pair: (u32, u32),
 ) -> Result<usize, MountFault>
     requires { IfSome (look_up pair table.now.entries) (λ i. i < length opened.old.items) }
-    ensures opened { IfOk result (λ i. Opens table.now.entries pair opened.old.items opened.new.items i) }
+    ensures opened { IfOk result (λ i. OpensDirectory table.now.entries pair opened.old.items opened.new.items i) }
     ensures refused { IfErr result (λ fault. NotOpened table.now.entries pair opened.old.items fault) }
 {
     let Some(&index) = table.get(&pair) else {

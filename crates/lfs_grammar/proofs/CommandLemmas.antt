@@ -12,14 +12,14 @@ use Rattle.clap.proofs.SimpleLemmas.{is_false}
 use Rattle.clap.proofs.WalkLemmas.{both}
 use Rattle.lfs_grammar.proofs.FaultlessRows.{none_of}
 use Rattle.lfs_grammar.proofs.Lists.{Each, In, contained, each, each_in}
-use Rattle.lfs_grammar.specs.Grammar.{IsNumber, IsSaid, IsSaidOrNeedNot, NamesCommand, TakesNoImage, attr_max, attr_max_or_source, block, commands}
+use Rattle.lfs_grammar.specs.Grammar.{IsNumber, IsSaid, IsSaidOrNeedNot, NamesCommand, TakesNoImage, attr_max, attr_max_or_source, block, program_commands}
 use Rattle.lfs_grammar.specs.Grammar.{count, file_max, file_max_or_source, is_change, is_wanted, keep, name_max, name_max_or_source}
 use Rattle.lfs_grammar.specs.Grammar.{new_block, new_count, steps, word}
 
 -- ---- the command of a name
 
 abbrev pub rules_at : Text → List Rule
-rules_at name = option_map_or (λ (c : Shape). c.rules) (find (λ c. bytes_eq c.name name) commands) []
+rules_at name = option_map_or (λ (c : Shape). c.rules) (find (λ c. bytes_eq c.name name) program_commands) []
 
 abbrev distinct_names : List Shape → Bool
 distinct_names [] = true
@@ -47,7 +47,7 @@ found_again (c ∷ rest) d one (inl is) =
     rw yes (ap (λ (x : Shape). Some x) (sym is))
 found_again (c ∷ rest) d one (inr later) = rw (none_other c rest d one later) (found_again rest d (both _ _ one).1 later)
 
-pub all_distinct : distinct_names commands ≡ true
+pub all_distinct : distinct_names program_commands ≡ true
 all_distinct = refl
 
 called : (name : Text) (rows : List Row) (names : NamesCommand (Some (name, rows))) → names.command.name ≡ name
@@ -76,8 +76,8 @@ pub says_of : (name word : Text) (rows : List Row) → name ≡ word → NamesCo
     → Each (λ rule. IsSaidOrNeedNot rule rows) (rules_at word)
 says_of name word rows same names =
     let command = names.command in
-    let found : find (λ c. bytes_eq c.name command.name) commands ≡ Some command =
-    found_again commands command all_distinct (contained commands command names.here) in
+    let found : find (λ c. bytes_eq c.name command.name) program_commands ≡ Some command =
+    found_again program_commands command all_distinct (contained program_commands command names.here) in
     let rules : rules_at word ≡ command.rules =
     ap rules_at (sym (called name rows names ∙ same)) ∙ ap (λ (o : Option Shape). option_map_or (λ (c : Shape). c.rules) o []) found in
     subst (λ (rules : List Rule). Each (λ rule. IsSaidOrNeedNot rule rows) rules) (sym rules) (command_said name rows names)
@@ -124,7 +124,7 @@ TakesImage c =
     ⊎ ((rest : List Rule) × (c.rules ≡ new_block ∷ word (codes "image") ∷ rest))
     ⊎ TakesNoImage c.name
 
-takes_image : Each TakesImage commands
+takes_image : Each TakesImage program_commands
 takes_image = search rules
 
 -- the block size is said, in whatever way it is, and the image
@@ -140,7 +140,7 @@ image_of rows first rules rest named wanted is said =
 
 pub image_said : (name : Text) (rows : List Row) → NamesCommand (Some (name, rows)) → TakesNoImage name ⊎ SaysImage rows
 image_said name rows names =
-    elim (each_in TakesImage commands names.command takes_image (contained commands names.command names.here)) [
+    elim (each_in TakesImage program_commands names.command takes_image (contained program_commands names.command names.here)) [
       | inl takes ↦ inr (image_of rows block names.command.rules takes.0 refl refl takes.1 (command_said name rows names))
       | inr (inl takes) ↦ inr (image_of rows new_block names.command.rules takes.0 refl refl takes.1 (command_said name rows names))
       | inr (inr none) ↦ inl (subst TakesNoImage (called name rows names) none)
@@ -150,13 +150,13 @@ image_said name rows names =
 abbrev TakesKeep : Shape → Type 0
 TakesKeep c = In keep c.rules ⊎ (is_change c.name ≡ false)
 
-takes_keep : Each TakesKeep commands
+takes_keep : Each TakesKeep program_commands
 takes_keep = search rules
 
 -- how many images are kept is said, or it isn't
 pub keep_says : (name : Text) (rows : List Row) → is_change name ≡ true → NamesCommand (Some (name, rows)) → IsSaidOrNeedNot keep rows
 keep_says name rows changes names =
-    elim (each_in TakesKeep commands names.command takes_keep (contained commands names.command names.here)) [
+    elim (each_in TakesKeep program_commands names.command takes_keep (contained program_commands names.command names.here)) [
       | inl takes ↦ each_in (λ rule. IsSaidOrNeedNot rule rows) names.command.rules keep (command_said name rows names) takes
       | inr other ↦
           let same : is_change names.command.name ≡ is_change name = ap is_change (called name rows names) in

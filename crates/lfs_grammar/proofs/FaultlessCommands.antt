@@ -26,7 +26,7 @@ use Rattle.clap.specs.Walk.{subcommand_met, subcommand_or_other, to_positional, 
 use Rattle.clap.specs.Walk.{value, waits, walk, walk_from, walked, walked_from, word_met}
 use Rattle.clap.specs.declared.error.kind.ErrorKind.TheVariants.{DisplayHelp, InvalidSubcommand}
 use Rattle.lfs_grammar.proofs.FaultlessRows.{Wants, distinct, first_none, found_in, found_passes, level_says, then_none}
-use Rattle.lfs_grammar.specs.Grammar.{IsSaid, IsSaidOrNeedNot, IsMatched, IsTaken, NamesCommand, commands, grammar, is_wanted}
+use Rattle.lfs_grammar.specs.Grammar.{IsSaid, IsSaidOrNeedNot, IsMatched, IsTaken, NamesCommand, program_commands, grammar, is_wanted}
 use Rattle.lfs_grammar.proofs.Lists.{Each, In, contains, each_in, every}
 
 -- ---- no step leads to the help
@@ -121,7 +121,7 @@ walk_stops s names (word ∷ rest) w kept e stops =
     walk_stops s names rest (walked s.rules names w word) kept (then_none _ _ e)
     (turn_stops s names w word kept (first_none (turn_fault s names w word) _ e) stops)
 
--- ---- commands, and what building makes of them
+-- ---- program_commands, and what building makes of them
 
 -- arguments, and the same as they are built
 abbrev pub AreBuilt : List Rule → List Rule → Type 0
@@ -175,7 +175,7 @@ pub record IsBuilt (command made : Shape) : Type 0 where
   pub distinct : distinct made.rules ≡ true
   pub kept : made.subcommand_negates_reqs ≡ false
 
--- the commands, and the same as they are built, with the help behind them
+-- the program_commands, and the same as they are built, with the help behind them
 abbrev pub CommandsBuilt : List Shape → List Shape → Type 0
 CommandsBuilt [] made = Each (λ s. (s.name ≡ help_name) × (s.aliases ≡ [])) made
 CommandsBuilt (c ∷ rest) [] = ⊥
@@ -265,11 +265,11 @@ line_said all b words built kept required e =
 
 -- ---- the program's command line
 
-commands_built : CommandsBuilt commands (built grammar).subs
+commands_built : CommandsBuilt program_commands (built grammar).subs
 commands_built = search rules
 
-pub taken_said : (words : List Text) → IsTaken words → Said commands (subcommand_of grammar words)
-taken_said words e = line_said commands (built grammar) (argument_words grammar words) commands_built refl refl e
+pub taken_said : (words : List Text) → IsTaken words → Said program_commands (subcommand_of grammar words)
+taken_said words e = line_said program_commands (built grammar) (argument_words grammar words) commands_built refl refl e
 
 grammar_is_simple : is_simple grammar ≡ true
 grammar_is_simple = refl
@@ -282,7 +282,7 @@ taken_named words e =
       command = said.command;
       rows = said.rows;
       is = said.is;
-      here = contains commands said.command said.here;
+      here = contains program_commands said.command said.here;
       said = every (λ rule. IsSaidOrNeedNot rule said.rows) said.command.rules said.said;
     }
 

@@ -1,4 +1,4 @@
--- The program's command line as data: its commands, in their order, and the words that each takes (own).
+-- The program's command line as data: its program_commands, in their order, and the words that each takes (own).
 use Rattle.std.specs.Prelude.{ℕ, ℤ, ◌<◌, ◌^◌, ◌≡◌, ◌⊎◌, ◌||◌, Bool, not, Option, List, [], ◌∷◌, ◌++◌, Some, None, true, false, codes, fold, map, max, pos}
 use Rattle.std.specs.List.{All, Contains}
 use Rattle.std.specs.Str.{bytes_eq}
@@ -244,17 +244,17 @@ row_rule row = form_rule row.form row.id.now
 abbrev pub command : Text → List Rule → App
 command name rules = fold with_rule (new_app name) rules
 
--- what a row of the program's commands stands for
+-- what a row of the program's program_commands stands for
 abbrev pub shape_at : CommandRow → Shape
 shape_at row = (command row.name.now (map rule_at row.arguments.now)).top
 
--- the program, before its commands
+-- the program, before its program_commands
 abbrev pub program : App
 program = record { top = record (command (codes "lfsed") []).top { has_version = true; subcommand_required = true }; subs = [] }
 
 -- a command that makes an image: it takes the block size, the image's file name, these words, the limits, and whether a file is replaced
-abbrev pub making : Text → List Rule → Shape
-making name rules =
+abbrev pub making_command : Text → List Rule → Shape
+making_command name rules =
     (command name (new_block ∷ word (codes "image") ∷ rules ++ name_max ∷ file_max ∷ attr_max ∷ is_new ∷ [])).top
 
 -- a command that reads one: it takes the block size, the image's file name, these words, and whether older states are gone on with
@@ -289,11 +289,11 @@ is_change name =
 abbrev pub TakesNoImage : Text → Type 0
 TakesNoImage name = (name ≡ codes "find") ⊎ (name ≡ codes "explain")
 
--- the program's commands
-abbrev pub commands : List Shape
-commands =
-    making (codes "format") (count ∷ size ∷ [])
-    ∷ making (codes "pack") (word (codes "dir") ∷ count ∷ size ∷ flag (codes "least") ∷ [])
+-- the program's program_commands
+abbrev pub program_commands : List Shape
+program_commands =
+    making_command (codes "format") (count ∷ size ∷ [])
+    ∷ making_command (codes "pack") (word (codes "dir") ∷ count ∷ size ∷ flag (codes "least") ∷ [])
     ∷ repack
     ∷ (command (codes "find") (word (codes "flash") ∷ [])).top
     ∷ asking (codes "extract") (word (codes "dir") ∷ path_or_root ∷ [])
@@ -319,9 +319,9 @@ commands =
     ∷ (command (codes "explain") (faults ∷ [])).top
     ∷ []
 
--- the program with its commands
+-- the program with its program_commands
 abbrev pub grammar : App
-grammar = fold with_subcommand program commands
+grammar = fold with_subcommand program program_commands
 
 -- an argument has a first text among the rows, which is read as the argument says, and passes what it takes
 pub record IsSaid (rule : Rule) (rows : List Row) : Type 0 where
@@ -348,7 +348,7 @@ pub record NamesCommand (named : Option (Text × List Row)) : Type 0 where
   pub command : Shape
   pub rows : List Row
   pub is : named ≡ Some (command.name, rows)
-  pub here : Contains commands command
+  pub here : Contains program_commands command
   pub said : All (λ rule. IsSaidOrNeedNot rule rows) command.rules
 
 -- the grammar takes the words: it finds no fault with them

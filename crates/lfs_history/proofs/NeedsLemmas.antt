@@ -4,7 +4,7 @@ use Rattle.std.proofs.lemmas.Nat.{mul-le}
 use Rattle.lfs_block.specs.Disk.{Disk, IsDisk}
 use Rattle.lfs_block.specs.Patch.{ChangeSet, applied}
 use Rattle.lfs_joint.specs.Joined.{together}
-use Rattle.lfs_joint.specs.JointLaws.{TogetherIsShort, named_by}
+use Rattle.lfs_joint.specs.JointLaws.{TogetherIsShort, blocks_named}
 use Rattle.lfs_fs.specs.Stored.{HeldAreHeldByLinks}
 use Rattle.lfs_journal.specs.Book.{patch_bytes}
 use Rattle.lfs_journal.proofs.Lengths.{patch_len}
@@ -24,7 +24,7 @@ pub record Few : Type 0 where
   pub one : TogetherIsOneByOne
 
 -- the commands change no more blocks than they need, and two more each
-all_few : Few → (d : Disk) (asked : List Asked) (ps : List ChangeSet) (plans : PlansAll d asked ps) → named_by ps ≤ needs d asked ps plans
+all_few : Few → (d : Disk) (asked : List Asked) (ps : List ChangeSet) (plans : PlansAll d asked ps) → blocks_named ps ≤ needs d asked ps plans
 all_few law d [] [] plans = omega arith
 all_few law d (a ∷ asked) (p ∷ ps) plans =
     let first = changes_few law.parts law.clean law.links d a p plans.0 in

@@ -9,7 +9,7 @@ use Rattle.lfs_block.specs.declared.mount_fault.MountFault.TheVariants.{Memory}
 use Rattle.lfs_fs.specs.Cause.{HasCause, IsOfFormat}
 use Rattle.lfs_fs.specs.Mounts.{MountedHaveNoCause}
 use Rattle.lfs_fs.specs.Tree.{tree}
-use Rattle.lfs_journal.specs.Book.{Book, Spells, journal_bytes}
+use Rattle.lfs_journal.specs.Book.{Book, SpellsJournal, journal_bytes}
 use Rattle.lfs_journal.specs.Laws.{BooksAreReadOnce}
 use Rattle.lfs_history.specs.declared.open_fault.OpenFault.{OpenFault}
 use Rattle.lfs_history.specs.declared.open_fault.OpenFault.TheVariants.{Mount, JournalFormat, JournalMismatch, JournalImage}
@@ -35,7 +35,7 @@ history_agrees : (h : History) → IsHistory h → HasHistory h.present (journal
 history_agrees h is = record { size = refl; count = refl; back = is.back; on = is.on }
 
 -- in version 2
-history_spelled : (h : History) → IsHistory h → Spells (journal_bytes (journal_of h)) (journal_of h)
+history_spelled : (h : History) → IsHistory h → SpellsJournal (journal_bytes (journal_of h)) (journal_of h)
 history_spelled h is = record { book = history_is_book h is; version = 2; version_is = inl refl; bytes_are = refl }
 
 pub saved_opens : (h : History) → IsHistory h → Opens h.present (journal_bytes (journal_of h)) h

@@ -3,7 +3,7 @@ use Rattle.std.specs.Prelude.{◌≡◌, ℕ, List, [], ◌++◌, reverse, Optio
 use Rattle.lfs_block.specs.Disk.{Disk}
 use Rattle.lfs_block.specs.declared.mount_fault.MountFault.{MountFault}
 use Rattle.lfs_fs.specs.Cause.{HasCause, IsOfFormat}
-use Rattle.lfs_journal.specs.Book.{Book, Spells}
+use Rattle.lfs_journal.specs.Book.{Book, SpellsJournal}
 use Rattle.lfs_history.specs.declared.open_fault.OpenFault.{OpenFault}
 use Rattle.lfs_history.specs.declared.open_fault.OpenFault.TheVariants.{Mount, JournalFormat, JournalMismatch, JournalImage}
 use Rattle.lfs_history.specs.History.{History, IsHistory, IsMounted, GoesBack, GoesForward, history, past_of, future_of}
@@ -37,7 +37,7 @@ others d j = past_of (reverse j.done) d ++ future_of j.undone d
 -- the history that the bytes denote on the image
 pub record Opens (d : Disk) (bytes : List ℕ) (h : History) : Type 0 where
   pub book : Book
-  pub spelled : Spells bytes book
+  pub spelled : SpellsJournal bytes book
   pub agrees : HasHistory d book
   pub is : h ≡ history d book.done book.undone
   pub history_is : IsHistory h
@@ -50,7 +50,7 @@ HasSomeCause d = (fault : MountFault) × IsOfFormat fault × HasCause d fault
 -- of the image, or one that does, of which another image has a cause. Want of memory says nothing.
 abbrev pub RefusesOpening : OpenFault → Disk → List ℕ → Type 0
 RefusesOpening (Mount fault) d bytes = HasCause d fault
-RefusesOpening JournalFormat d bytes = IsMounted d × ((j : Book) → Spells bytes j → ⊥)
-RefusesOpening JournalMismatch d bytes = IsMounted d × (j : Book) × Spells bytes j × (HasHistory d j → ⊥)
-RefusesOpening JournalImage d bytes = IsMounted d × (j : Book) × Spells bytes j × HasHistory d j
+RefusesOpening JournalFormat d bytes = IsMounted d × ((j : Book) → SpellsJournal bytes j → ⊥)
+RefusesOpening JournalMismatch d bytes = IsMounted d × (j : Book) × SpellsJournal bytes j × (HasHistory d j → ⊥)
+RefusesOpening JournalImage d bytes = IsMounted d × (j : Book) × SpellsJournal bytes j × HasHistory d j
     × (e : Disk) × Contains (others d j) e × HasSomeCause e

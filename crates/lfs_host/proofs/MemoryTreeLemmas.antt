@@ -23,19 +23,19 @@ use Rattle.std.proofs.lemmas.Map.Views.{Contains-from_any, list_any-from_Contain
 use Rattle.std.proofs.lemmas.Slice.Eq.{bytes_eq-Decides}
 use Rattle.lfs_host.specs.declared.host_kind.HostKind.{HostKind}
 use Rattle.lfs_host.specs.declared.host_kind.HostKind.TheVariants.{Folder, Missing}
-use Rattle.lfs_host.specs.HostTree.{AreNamesIn, FolderOf, NothingThere, kind_of}
+use Rattle.lfs_host.specs.HostTree.{AreNamesIn, FolderOf, NothingThere, host_kind_of}
 use Rattle.lfs_host.specs.MemoryFiles.{files_of}
-use Rattle.lfs_host.specs.MemoryTree.{HasNoGap, below, first_name, name_through, names_of, names_through, node_of, tree_of}
+use Rattle.lfs_host.specs.MemoryTree.{HasNoGap, name_behind, first_name, name_through, file_names_of, names_through, host_node_of, tree_of}
 
--- ---- what is below a folder
+-- ---- what is name_behind a folder
 
 -- a name with a folder's name and a slash in front
-pub below_of : (folder rest : List ℕ) → below folder (folder ++ 47 ∷ rest) ≡ Some rest
+pub below_of : (folder rest : List ℕ) → name_behind folder (folder ++ 47 ∷ rest) ≡ Some rest
 below_of [] rest = refl
 below_of (a ∷ folder) rest = grind (arith, nat_tests, below_of folder rest)
 
-split_by : (same : Bool) (a b : ℕ) (folder file rest : List ℕ) → (a == b) ≡ same → (if same then below folder file else None) ≡ Some rest
-    → (below folder file ≡ Some rest → file ≡ folder ++ 47 ∷ rest) → b ∷ file ≡ a ∷ folder ++ 47 ∷ rest
+split_by : (same : Bool) (a b : ℕ) (folder file rest : List ℕ) → (a == b) ≡ same → (if same then name_behind folder file else None) ≡ Some rest
+    → (name_behind folder file ≡ Some rest → file ≡ folder ++ 47 ∷ rest) → b ∷ file ≡ a ∷ folder ++ 47 ∷ rest
 split_by true a b folder file rest is h by = let e : file ≡ folder ++ 47 ∷ rest = by h in let same : a ≡ b = grind (arith, nat_tests) in cc
 split_by false a b folder file rest is h by = cc
 
@@ -43,66 +43,66 @@ slash_by : (same : Bool) (b : ℕ) (file rest : List ℕ) → (b == 47) ≡ same
 slash_by true b file rest is h = let same : b ≡ 47 = grind (arith, nat_tests) in cc
 slash_by false b file rest is h = cc
 
--- what is below a folder has such a name
-pub below_is : (folder file rest : List ℕ) → below folder file ≡ Some rest → file ≡ folder ++ 47 ∷ rest
+-- what is name_behind a folder has such a name
+pub below_is : (folder file rest : List ℕ) → name_behind folder file ≡ Some rest → file ≡ folder ++ 47 ∷ rest
 below_is [] [] rest h = cc
 below_is [] (b ∷ file) rest h = slash_by (b == 47) b file rest refl h
 below_is (a ∷ folder) [] rest h = cc
 below_is (a ∷ folder) (b ∷ file) rest h = split_by (a == b) a b folder file rest refl h (below_is folder file rest)
 
-none_by : (found : Option (List ℕ)) (folder file : List ℕ) → below folder file ≡ found → ((rest : List ℕ) → file ≢ folder ++ 47 ∷ rest) → found ≡ None
+none_by : (found : Option (List ℕ)) (folder file : List ℕ) → name_behind folder file ≡ found → ((rest : List ℕ) → file ≢ folder ++ 47 ∷ rest) → found ≡ None
 none_by None folder file is not = refl
 none_by (Some rest) folder file is not = absurd (not rest (below_is folder file rest is))
 
--- and what has no such name isn't below it
-pub not_below : (folder file : List ℕ) → ((rest : List ℕ) → file ≢ folder ++ 47 ∷ rest) → below folder file ≡ None
-not_below folder file not = none_by (below folder file) folder file refl not
+-- and what has no such name isn't name_behind it
+pub not_below : (folder file : List ℕ) → ((rest : List ℕ) → file ≢ folder ++ 47 ∷ rest) → name_behind folder file ≡ None
+not_below folder file not = none_by (name_behind folder file) folder file refl not
 
 -- a name that is cut after a folder's name, and then after a slash
 pub below_cut : (folder file rest : List ℕ) (cut : Option (Bor (List ℕ))) → file ≡ folder ++ rest
-    → MatchOption cut ((more : List ℕ) → rest ≢ 47 ∷ more) (λ more. rest ≡ 47 ∷ more.now) → option_map (λ more. more.now) cut ≡ below folder file
+    → MatchOption cut ((more : List ℕ) → rest ≢ 47 ∷ more) (λ more. rest ≡ 47 ∷ more.now) → option_map (λ more. more.now) cut ≡ name_behind folder file
 below_cut folder file rest None is not = sym (not_below folder file
     (λ more slashed. not more (append_cancel_left folder rest (47 ∷ more) (sym is ∙ slashed))))
 below_cut folder file rest (Some more) is slashed = sym (
-    ap (below folder) (is ∙ ap (λ (xs : List ℕ). folder ++ xs) slashed) ∙ below_of folder more.now)
+    ap (name_behind folder) (is ∙ ap (λ (xs : List ℕ). folder ++ xs) slashed) ∙ below_of folder more.now)
 
 -- all of a name without a slash is its first name
 pub complete_name : (name : List ℕ) → position_or_len (λ b. b == 47) name ≡ length name → first_name name ≡ name
 complete_name name none = ap (λ (n : ℕ). take n name) none ∙ take-length name
 
 -- the name that a file leads through
-pub name_is : (folder file rest name : List ℕ) → Some rest ≡ below folder file → name ≡ first_name rest → Some name ≡ name_through folder file
+pub name_is : (folder file rest name : List ℕ) → Some rest ≡ name_behind folder file → name ≡ first_name rest → Some name ≡ name_through folder file
 name_is folder file rest name here is = ap Some is ∙ ap (option_map first_name) here
 
 -- ---- what is under a name
 
 leads_by : {K : Type 0} (test : K → Bool) (ks : List K) (names : List (List ℕ)) (through : Option (List ℕ)) → (is_some through || list_any test ks) ≡ true
-    → (list_any test ks ≡ true → Folder ≡ kind_of (node_of None names)) → Folder ≡ kind_of (node_of None (cons_option through names))
+    → (list_any test ks ≡ true → Folder ≡ host_kind_of (host_node_of None names)) → Folder ≡ host_kind_of (host_node_of None (cons_option through names))
 leads_by test ks names None some rest = rest some
 leads_by test ks names (Some n) some rest = refl
 
 -- some file's name leads through a folder
 pub leads_in : {K : Type 0} (text : K → List ℕ) (folder : List ℕ) (ks : List K) → list_any (λ k. is_some (name_through folder (text k))) ks ≡ true
-    → Folder ≡ kind_of (node_of None (names_through folder (map text ks)))
+    → Folder ≡ host_kind_of (host_node_of None (names_through folder (map text ks)))
 leads_in text folder [] h = cc
 leads_in text folder (k ∷ ks) h = leads_by (λ x. is_some (name_through folder (text x))) ks (names_through folder (map text ks))
     (name_through folder (text k)) h (leads_in text folder ks)
 
 none_by_all : {K : Type 0} (test : K → Bool) (ks : List K) (names : List (List ℕ)) (through : Option (List ℕ)) → (is_some through || list_any test ks) ≡ false
-    → (list_any test ks ≡ false → Missing ≡ kind_of (node_of None names)) → Missing ≡ kind_of (node_of None (cons_option through names))
+    → (list_any test ks ≡ false → Missing ≡ host_kind_of (host_node_of None names)) → Missing ≡ host_kind_of (host_node_of None (cons_option through names))
 none_by_all test ks names None none rest = rest none
 none_by_all test ks names (Some n) none rest = cc
 
 -- and none does
 pub none_leads_in : {K : Type 0} (text : K → List ℕ) (folder : List ℕ) (ks : List K) → list_any (λ k. is_some (name_through folder (text k))) ks ≡ false
-    → Missing ≡ kind_of (node_of None (names_through folder (map text ks)))
+    → Missing ≡ host_kind_of (host_node_of None (names_through folder (map text ks)))
 none_leads_in text folder [] h = refl
 none_leads_in text folder (k ∷ ks) h = none_by_all (λ x. is_some (name_through folder (text x))) ks (names_through folder (map text ks))
     (name_through folder (text k)) h (none_leads_in text folder ks)
 
 -- where there is no file of a name
-pub no_file_there : (file : Option (List ℕ)) (names : List (List ℕ)) (kind : HostKind) → is_some file ≡ false → kind ≡ kind_of (node_of None names)
-    → kind ≡ kind_of (node_of file names)
+pub no_file_there : (file : Option (List ℕ)) (names : List (List ℕ)) (kind : HostKind) → is_some file ≡ false → kind ≡ host_kind_of (host_node_of None names)
+    → kind ≡ host_kind_of (host_node_of file names)
 no_file_there None names kind none is = is
 no_file_there (Some bytes) names kind none is = cc
 
@@ -234,7 +234,7 @@ found_text folder n (t ∷ texts) h = found_by folder n t texts (name_through fo
 
 -- a text that leads on makes a folder
 leads_on : (name : List ℕ) (texts : List (List ℕ)) (text m : List ℕ) → list_any (bytes_eq text) texts ≡ true → name_through name text ≡ Some m
-    → node_of None (names_through name texts) ≢ NothingThere
+    → host_node_of None (names_through name texts) ≢ NothingThere
 leads_on name [] text m there through = cc
 leads_on name (t ∷ texts) text m there through = elim (or_either (bytes_eq text t) (list_any (bytes_eq text) texts) there) [
   | inl same ↦ on_first name texts (name_through name t) (ap (name_through name) (sym ((bytes_eq-Decides text t).0 same)) ∙ through)
@@ -242,16 +242,16 @@ leads_on name (t ∷ texts) text m there through = elim (or_either (bytes_eq tex
 ]
   where
     on_first : (name : List ℕ) (texts : List (List ℕ)) (found : Option (List ℕ)) → found ≡ Some m
-        → node_of None (cons_option found (names_through name texts)) ≢ NothingThere
+        → host_node_of None (cons_option found (names_through name texts)) ≢ NothingThere
     on_first name texts None is = cc
     on_first name texts (Some n) is = λ none. cc
 
-    on_later : (name : List ℕ) (texts : List (List ℕ)) (found : Option (List ℕ)) → node_of None (names_through name texts) ≢ NothingThere
-        → node_of None (cons_option found (names_through name texts)) ≢ NothingThere
+    on_later : (name : List ℕ) (texts : List (List ℕ)) (found : Option (List ℕ)) → host_node_of None (names_through name texts) ≢ NothingThere
+        → host_node_of None (cons_option found (names_through name texts)) ≢ NothingThere
     on_later name texts None some = some
     on_later name texts (Some n) some = λ none. cc
 
-through_by : (folder text n : List ℕ) (found : Option (List ℕ)) → below folder text ≡ found → option_map first_name found ≡ Some n
+through_by : (folder text n : List ℕ) (found : Option (List ℕ)) → name_behind folder text ≡ found → option_map first_name found ≡ Some n
     → (rest : List ℕ) × (text ≡ folder ++ 47 ∷ rest) × (first_name rest ≡ n)
 through_by folder text n None is h = cc
 through_by folder text n (Some rest) is h = (rest, below_is folder text rest is, some_same h)
@@ -279,11 +279,11 @@ cut_at_slash : (rest : List ℕ) → (rest ≡ first_name rest) ⊎ ((more : Lis
 cut_at_slash [] = inl refl
 cut_at_slash (b ∷ rest) = cut_by (b == 47) b rest refl (cut_at_slash rest)
 
-file_there : (file : Option (List ℕ)) (names : List (List ℕ)) → is_some file ≡ true → node_of file names ≢ NothingThere
+file_there : (file : Option (List ℕ)) (names : List (List ℕ)) → is_some file ≡ true → host_node_of file names ≢ NothingThere
 file_there None names some = cc
 file_there (Some bytes) names some = λ none. cc
 
-folder_there : (file : Option (List ℕ)) (names : List (List ℕ)) → node_of None names ≢ NothingThere → node_of file names ≢ NothingThere
+folder_there : (file : Option (List ℕ)) (names : List (List ℕ)) → host_node_of None names ≢ NothingThere → host_node_of file names ≢ NothingThere
 folder_there None names some = some
 folder_there (Some bytes) names some = λ none. cc
 
@@ -292,28 +292,28 @@ is_some_mapped f None = refl
 is_some_mapped f (Some x) = refl
 
 -- there is a file of each name that a map has
-file_of_name : {Y : Type 0} (files : BTreeMap (String Y) (Vec ℕ)) (name : List ℕ) → list_any (bytes_eq name) (names_of files) ≡ true
+file_of_name : {Y : Type 0} (files : BTreeMap (String Y) (Vec ℕ)) (name : List ℕ) → list_any (bytes_eq name) (file_names_of files) ≡ true
     → is_some (files_of files name) ≡ true
 file_of_name files name has =
     is_some_mapped (λ bytes. bytes.items) (get_by_text files name)
     ∙ is_some-lookup (is_at (λ k. slice_cmp nat_cmp name (string_bytes k))) files.entries
     ∙ set_texts name (keys files) ∙ has
 
-names_there : (file : Option (List ℕ)) (names others : List (List ℕ)) → node_of file names ≡ FolderOf others → names ≡ others
+names_there : (file : Option (List ℕ)) (names others : List (List ℕ)) → host_node_of file names ≡ FolderOf others → names ≡ others
 names_there (Some bytes) names others h = cc
 names_there None [] others h = cc
 names_there None (n ∷ names) others h = cc
 
 pub no_gap : {Y : Type 0} (files : BTreeMap (String Y) (Vec ℕ)) → HasNoGap (tree_of files)
 no_gap files folder n names folder_is there =
-    let texts : List (List ℕ) = names_of files in
+    let texts : List (List ℕ) = file_names_of files in
     let name : List ℕ = folder ++ 47 ∷ n in
     let same : names_through folder texts ≡ names = names_there (files_of files folder) (names_through folder texts) names folder_is in
     let named : list_any (bytes_eq n) (names_through folder texts) ≡ true =
     ap (list_any (bytes_eq n)) same ∙ list_any-from_Contains nat_list_eq_equiv n names there in
     let leads = found_text folder n texts named in
     let text : List ℕ = leads.0 in
-    let cut = through_by folder text n (below folder text) refl leads.2 in
+    let cut = through_by folder text n (name_behind folder text) refl leads.2 in
     let rest : List ℕ = cut.0 in
     elim (cut_at_slash rest) [
       | inl complete ↦ let is : text ≡ name = cut.1 ∙ ap (λ (xs : List ℕ). folder ++ 47 ∷ xs) (complete ∙ cut.2) in

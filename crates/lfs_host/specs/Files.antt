@@ -18,14 +18,14 @@ IsMissing None name = ⊤
 IsMissing (Some files) name = files name ≡ None
 
 -- there is a file of a name, where the files are known
-abbrev pub IsThere : Option Files → List ℕ → Type 0
-IsThere None name = ⊤
-IsThere (Some files) name = IsSome (files name)
+abbrev pub IsFileThere : Option Files → List ℕ → Type 0
+IsFileThere None name = ⊤
+IsFileThere (Some files) name = IsSome (files name)
 
 -- whether there is a file of a name is said only where it is so
 abbrev pub IsLocked : Option Files → List ℕ → Lock → Type 0
 IsLocked files name NoFile = IsMissing files name
-IsLocked files name _ = IsThere files name
+IsLocked files name _ = IsFileThere files name
 
 -- these are the first bytes of known ones, `most` of them and one more at most
 abbrev pub BeginsWith : ℕ → List ℕ → List ℕ → Type 0
@@ -79,8 +79,8 @@ abbrev pub HasWritten : List ℕ → List ℕ → Files → Files → Type 0
 HasWritten name bytes old new = (new name ≡ Some bytes) × StaysBut (name ∷ []) old new
 
 -- the same where files are known
-abbrev pub Writes : Option Files → Option Files → List ℕ → List ℕ → Type 0
-Writes old new name bytes = OnKnown (HasWritten name bytes) old new
+abbrev pub WritesFiles : Option Files → Option Files → List ℕ → List ℕ → Type 0
+WritesFiles old new name bytes = OnKnown (HasWritten name bytes) old new
 
 -- what was under one name is under another, and files stay as they were but for these two
 abbrev pub HasRenamed : List ℕ → List ℕ → Files → Files → Type 0

@@ -18,16 +18,16 @@ pub data HostNode : Type 0 where
 abbrev pub HostTree : Type 0
 HostTree = List ℕ → HostNode
 
-abbrev pub kind_of : HostNode → HostKind
-kind_of NothingThere = Missing
-kind_of (FileOf bytes) = File
-kind_of (FolderOf names) = Folder
-kind_of OtherThere = Other
+abbrev pub host_kind_of : HostNode → HostKind
+host_kind_of NothingThere = Missing
+host_kind_of (FileOf bytes) = File
+host_kind_of (FolderOf names) = Folder
+host_kind_of OtherThere = Other
 
 -- of what kind it is
 abbrev pub IsKind : Option HostTree → List ℕ → HostKind → Type 0
 IsKind None name kind = ⊤
-IsKind (Some tree) name kind = kind ≡ kind_of (tree name)
+IsKind (Some tree) name kind = kind ≡ host_kind_of (tree name)
 
 -- these are the names in a folder, each once, in any order
 pub record AreNamesIn (there listed : List (List ℕ)) : Type 0 where

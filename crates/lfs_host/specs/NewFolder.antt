@@ -13,9 +13,9 @@ Makes (Some old) None more = ⊥
 Makes (Some old) (Some new) more = new ≡ old ++ more
 
 -- a file is begun: where it is known what was made, it is known too that no byte was written to the file
-abbrev pub Begins : Option (List Made) → Option (List ℕ) → Type 0
-Begins None filled = ⊤
-Begins (Some made) filled = filled ≡ Some []
+abbrev pub BeginsFile : Option (List Made) → Option (List ℕ) → Type 0
+BeginsFile None filled = ⊤
+BeginsFile (Some made) filled = filled ≡ Some []
 
 -- a file is ended: it is made, with the bytes that were written to it, where they are known
 abbrev pub Ends : Option (List Made) → Option (List Made) → List ℕ → Option (List ℕ) → Type 0

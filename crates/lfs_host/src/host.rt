@@ -2,7 +2,7 @@
 
 ghost use Rattle.std.specs.Prelude.{◌≡◌, ◌<◌, ◌≤◌, length, take, false, is_err, is_none, IfOk, IfSome, MatchOption, MatchResult, OnOk, string_bytes};
 ghost use Rattle.std.specs.Io.KnownBytes.{Appends, Keeps};
-ghost use Rattle.lfs_host.specs.Files.{FindsFile, IsLocked, IsMissing, IsTarget, KeepsOthers, ReadsFile, ReadsFrom, ReadsInput, Renames, Writes};
+ghost use Rattle.lfs_host.specs.Files.{FindsFile, IsLocked, IsMissing, IsTarget, KeepsOthers, ReadsFile, ReadsFrom, ReadsInput, Renames, WritesFiles};
 ghost use Rattle.lfs_host.specs.Scene.{Claims, HasClaimed, KeepsAll, KeepsInput, KeepsOutput, KeepsSeen, KeepsText, Notes, NotesFile, NotesPlace, reading_refused};
 
 use crate::folders::Folders;
@@ -76,7 +76,7 @@ pub trait Host: Folders + NewFolder {
     /// Makes a file of a text, with the rights of the file `like` where there is one; what an earlier run left under
     /// the name is replaced. Where it is refused nothing is left under the name, or what was there.
     fn write<T: Text>(&mut self, name: &str, text: &T, like: &str) -> Result<(), HostFault>
-        ensures files { MatchResult result (λ _. Writes (Self.known self.old).files (Self.known self.new).files name.now (T.bytes text.now))
+        ensures files { MatchResult result (λ _. WritesFiles (Self.known self.old).files (Self.known self.new).files name.now (T.bytes text.now))
             (λ _. KeepsOthers (Self.known self.old).files (Self.known self.new).files name.now) }
         ensures noted { Notes (is_err result) (Self.known self.old) (Self.known self.new) }
         ensures kept { KeepsText (Self.known self.old) (Self.known self.new) };

@@ -4,8 +4,8 @@ ghost use Rattle.std.specs.Prelude.{◌≡◌, IfOk, is_some, map, string_bytes}
 ghost use Rattle.std.specs.BTreeMap.{keys};
 ghost use Rattle.std.specs.List.{list_any};
 ghost use Rattle.std.specs.Option.{option_map};
-ghost use Rattle.lfs_host.specs.HostTree.{AreNamesIn, kind_of};
-ghost use Rattle.lfs_host.specs.MemoryTree.{HasNoGap, below, name_through, names_of, names_through, tree_of};
+ghost use Rattle.lfs_host.specs.HostTree.{AreNamesIn, host_kind_of};
+ghost use Rattle.lfs_host.specs.MemoryTree.{HasNoGap, name_behind, name_through, file_names_of, names_through, tree_of};
 
 use crate::host_kind::HostKind;
 use crate::memory_files::MemoryFiles;
@@ -14,7 +14,7 @@ use std::collections::BTreeSet;
 
 /// What a file's name has behind a folder's name and a slash, where the file is below the folder.
 pub(crate) fn below<'a>(folder: &str, file: &'a str) -> Option<&'a str>
-    ensures { option_map (λ rest. rest.now) result ≡ below folder.now file.now }
+    ensures { option_map (λ rest. rest.now) result ≡ name_behind folder.now file.now }
 {
     file.strip_prefix(folder)?.strip_prefix('/')
 }
@@ -41,7 +41,7 @@ fn has_below(files: &MemoryFiles, folder: &str) -> bool
 
 /// What is under a name: a file, or a folder as long as a file is below it, or nothing.
 pub(crate) fn kind_of(files: &MemoryFiles, name: &str) -> HostKind
-    ensures { result ≡ kind_of (tree_of files.now name.now) }
+    ensures { result ≡ host_kind_of (tree_of files.now name.now) }
 {
     if files.contains_key(name) {
         HostKind::File
@@ -58,7 +58,7 @@ pub(crate) fn names_in(
     files: &MemoryFiles,
     folder: &str,
 ) -> Result<Vec<String>, AllocError>
-    ensures { IfOk result (λ names. AreNamesIn (names_through folder.now (names_of files.now)) (map (λ n. string_bytes n) names.items)) }
+    ensures { IfOk result (λ names. AreNamesIn (names_through folder.now (file_names_of files.now)) (map (λ n. string_bytes n) names.items)) }
 {
     let mut names: BTreeSet<String> = BTreeSet::new(alloc);
     for file in files.keys() {

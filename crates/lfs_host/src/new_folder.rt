@@ -2,7 +2,7 @@
 
 ghost use Rattle.std.specs.Prelude.{◌≡◌, ◌<◌, ◌≤◌, [], ◌∷◌, length, take, is_err, is_none, IfSome, OnOk, MatchOption, MatchResult};
 ghost use Rattle.std.specs.Io.KnownBytes.{Appends, Keeps};
-ghost use Rattle.lfs_host.specs.NewFolder.{Begins, Ends, FolderMade, Makes};
+ghost use Rattle.lfs_host.specs.NewFolder.{BeginsFile, Ends, FolderMade, Makes};
 ghost use Rattle.lfs_host.specs.Scene.{KeepsFiles, Notes};
 
 use crate::host_fault::HostFault;
@@ -19,7 +19,7 @@ pub trait NewFolder: Known {
 
     /// Begins a file of this name, of which nothing is written yet.
     fn begin_file(&mut self, name: &str) -> Result<(), HostFault>
-        ensures begun { OnOk result (Begins (Self.known self.new).made (Self.known self.new).filled) }
+        ensures begun { OnOk result (BeginsFile (Self.known self.new).made (Self.known self.new).filled) }
         ensures made { (Self.known self.new).made ≡ (Self.known self.old).made }
         ensures noted { Notes (is_err result) (Self.known self.old) (Self.known self.new) }
         ensures kept { KeepsFiles (Self.known self.old) (Self.known self.new) };

@@ -46,13 +46,13 @@ ComposedNames = (p q : ChangeSet) (n : ℕ) → Contains (map (λ (c : Change). 
     → Contains (map (λ (c : Change). c.number) p.changes) n ⊎ Contains (map (λ (c : Change). c.number) q.changes) n
 
 -- how many blocks they name, all in all
-abbrev pub named_by : List ChangeSet → ℕ
-named_by [] = 0
-named_by (p ∷ ps) = length p.changes + named_by ps
+abbrev pub blocks_named : List ChangeSet → ℕ
+blocks_named [] = 0
+blocks_named (p ∷ ps) = length p.changes + blocks_named ps
 
 -- nor does one of any list name more
 abbrev pub TogetherIsShort : Type 0
-TogetherIsShort = (p : ChangeSet) (qs : List ChangeSet) → length (together p qs).changes ≤ named_by (p ∷ qs)
+TogetherIsShort = (p : ChangeSet) (qs : List ChangeSet) → length (together p qs).changes ≤ blocks_named (p ∷ qs)
 
 -- one more behind others
 abbrev pub OneMoreTogether : Type 0

@@ -9,7 +9,7 @@ use Rattle.std.proofs.lemmas.Option.{cond_some, same_Some}
 use Rattle.lfs_block.specs.Bytes.{IsBytes}
 use Rattle.lfs_block.specs.Geometry.{IsGeometry}
 use Rattle.lfs_block.specs.Patch.{ChangeSet}
-use Rattle.lfs_journal.specs.Book.{Book, book_of, patch_bytes_in, bytes_in, IsPatchOf, KeepsAt, IsVersionOf, IsBook, Spells}
+use Rattle.lfs_journal.specs.Book.{Book, book_of, patch_bytes_in, bytes_in, IsPatchOf, KeepsAt, IsVersionOf, IsBook, SpellsJournal}
 use Rattle.lfs_journal.specs.Reading.{◌>>=◌, patches_at, Head, head_at, read_book}
 use Rattle.lfs_journal.specs.declared.journal_fault.JournalFault.{JournalFault}
 use Rattle.lfs_journal.specs.declared.journal_fault.JournalFault.TheVariants.{JournalFormat, Memory}
@@ -63,7 +63,7 @@ version_of h ps (inr second) each = inl second
 -- a book, each of whose parts is read
 book_read : (bytes : List ℕ) (a : Head × List ℕ) (b : List ChangeSet × List ℕ) (j : Book) → IsBytes bytes → head_at bytes ≡ Some a
     → patches_at a.0 (a.0.done + a.0.undone) a.1 ≡ Some b
-    → cond (eqb (length b.1) 0) (Some (book_of a.0.size a.0.count b.0 a.0.done)) None ≡ Some j → Spells bytes j
+    → cond (eqb (length b.1) 0) (Some (book_of a.0.size a.0.count b.0 a.0.done)) None ≡ Some j → SpellsJournal bytes j
 book_read bytes a b j h head_is patches_are is =
     let head : Head = a.0 in
     let ps : List ChangeSet = b.0 in
@@ -74,16 +74,16 @@ book_read bytes a b j h head_is patches_are is =
     let both : bytes ≡ spelled head ps ++ b.1 =
     (Takes-then bytes (head_bytes head) a.1 (flat_map (patch_bytes_in head.version) ps) b.1 first.takes second.takes).parts in
     let complete : bytes ≡ spelled head ps = both ∙ ap (λ (x : List ℕ). spelled head ps ++ x) nothing ∙ append-nil (spelled head ps) in
-    let all : Spells bytes (book_of head.size head.count ps head.done) = record {
+    let all : SpellsJournal bytes (book_of head.size head.count ps head.done) = record {
       book = book_of-is head.size head.count head.done head.undone ps first.is.geometry (each_of head ps second.each) second.len
           first.is.few;
       version = head.version;
       version_is = version_of head ps first.is.version second.each;
       bytes_are = book_of-spelled head.version head.size head.count head.done head.undone ps second.len ∙ sym complete;
     } in
-    subst (Spells bytes) g.1 all
+    subst (SpellsJournal bytes) g.1 all
 
-pub book_takes : (bytes : List ℕ) (j : Book) → IsBytes bytes → read_book bytes ≡ Some j → Spells bytes j
+pub book_takes : (bytes : List ℕ) (j : Book) → IsBytes bytes → read_book bytes ≡ Some j → SpellsJournal bytes j
 unfolding read_book
 book_takes bytes j h e =
     let a = bind_some (head_at bytes) (λ head. patches_at head.0 (head.0.done + head.0.undone) head.1 >>= λ patches.
@@ -143,7 +143,7 @@ again_in version j is of =
     (λ patches. cond (eqb (length patches.1) 0) (Some (book_of j.size j.count patches.0 (length j.done))) None)
     (ps, []) (Some j) second back)
 
-pub book_again : (bytes : List ℕ) (j : Book) → Spells bytes j → read_book bytes ≡ Some j
+pub book_again : (bytes : List ℕ) (j : Book) → SpellsJournal bytes j → read_book bytes ≡ Some j
 book_again bytes j spells = ap read_book (sym spells.bytes_are) ∙ again_in spells.version j spells.book spells.version_is
 
 pub books_once : BooksAreReadOnce
@@ -152,7 +152,7 @@ books_once bytes i j first second = same_Some i j (sym (book_again bytes i first
 -- ---- what a reader found
 
 pub is_read : (bytes : List ℕ) (r : Result Book JournalFault) → IsBytes bytes → Gives (λ j. j) r (read_book bytes)
-    → IfOk r (λ j. Spells bytes j)
+    → IfOk r (λ j. SpellsJournal bytes j)
 is_read bytes (Ok j) h given = book_takes bytes j h given
 is_read bytes (Err fault) h given = tt
 

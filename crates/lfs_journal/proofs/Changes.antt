@@ -10,7 +10,7 @@ use Rattle.lfs_block.specs.Bytes.{IsBytes}
 use Rattle.lfs_block.specs.Change.{Change, IsRising, IsBlockChange}
 use Rattle.lfs_block.specs.Disk.{erased_block}
 use Rattle.lfs_journal.specs.Book.{change_bytes}
-use Rattle.lfs_journal.specs.Reading.{◌>>=◌, word_at, block_at, is_erased, change_at, changes_at}
+use Rattle.lfs_journal.specs.Reading.{◌>>=◌, word_at, block_at, is_all_erased, change_at, changes_at}
 use Rattle.lfs_journal.proofs.Erased.{erased_before, passes_erased}
 use Rattle.lfs_journal.proofs.Fields.{bind_some, guard_none, Takes, Takes-then, word_takes, word_again, block_takes, block_again}
 
@@ -38,7 +38,7 @@ pub record TakesChange (size before after least : ℕ) (bytes : List ℕ) (x : C
 -- what is read of the old and the new bytes
 abbrev tested : ℕ → ℕ → List ℕ → List ℕ × List ℕ → Option (Change × List ℕ)
 tested before number old new =
-    cond (leb before number && not (is_erased old)) None (Some (record { number = number; old = old; new = new.0 }, new.1))
+    cond (leb before number && not (is_all_erased old)) None (Some (record { number = number; old = old; new = new.0 }, new.1))
 
 abbrev blocks_at : ℕ → ℕ → ℕ → List ℕ → Option (Change × List ℕ)
 blocks_at size before number bytes = block_at size bytes >>= λ old. block_at size old.1 >>= λ new. tested before number old.0 new
@@ -54,7 +54,7 @@ change_read size before after least bytes n o w x h number_is within old_is new_
     let new = block_takes size o.1 w.0 w.1 old.takes.rest_bytes new_is in
     let both = Takes-then n.1 o.0 o.1 w.0 w.1 old.takes new.takes in
     let made : Change × List ℕ = (record { number = n.0; old = o.0; new = w.0 }, w.1) in
-    let k = guard_none (leb before n.0 && not (is_erased o.0)) (Some made) x is in
+    let k = guard_none (leb before n.0 && not (is_all_erased o.0)) (Some made) x is in
     let all : TakesChange size before after least bytes made = record {
       takes = Takes-then bytes (to_le_bytes w32 n.0) n.1 (o.0 ++ w.0) w.1 t.0 both;
       is = record {
@@ -104,15 +104,15 @@ not_unless false erased h = refl
 -- a change, each of whose parts is found, with bytes of its own
 pub change_found : (size before after least number : ℕ) (bytes first old second new third olds news : List ℕ)
     → word_at bytes ≡ Some (number, first) → least ≤ number → number < after → block_at size first ≡ Some (old, second)
-    → block_at size second ≡ Some (new, third) → (before ≤ number → is_erased old ≡ true) → olds ≡ old → news ≡ new
+    → block_at size second ≡ Some (new, third) → (before ≤ number → is_all_erased old ≡ true) → olds ≡ old → news ≡ new
     → change_at size before after least bytes ≡ Some (record { number = number; old = olds; new = news }, third)
 unfolding change_at
 change_found size before after least number bytes first old second new third olds news word from below old_is new_is erased olds_are
     news_are =
     let low : ltb number least ≡ false = le-ltb _ _ from in
     let high : leb after number ≡ false = lt-leb _ _ below in
-    let passed : (leb before number && not (is_erased old)) ≡ false =
-    not_unless (leb before number) (is_erased old) (λ e. erased (leb-true _ _ e)) in
+    let passed : (leb before number && not (is_all_erased old)) ≡ false =
+    not_unless (leb before number) (is_all_erased old) (λ e. erased (leb-true _ _ e)) in
     rw (word, low, high, old_is, new_is, passed, olds_are, news_are) refl
 
 -- ---- several blocks

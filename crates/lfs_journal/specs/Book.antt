@@ -76,7 +76,7 @@ abbrev pub IsVersionOf : ℕ → Book → Type 0
 IsVersionOf version j = (version ≡ 2) ⊎ ((version ≡ 1) × KeepsCount j)
 
 -- the bytes spell the journal, in one of the versions
-pub record Spells (bytes : List ℕ) (j : Book) : Type 0 where
+pub record SpellsJournal (bytes : List ℕ) (j : Book) : Type 0 where
   pub book : IsBook j
   pub version : ℕ
   pub version_is : IsVersionOf version j

@@ -2,7 +2,7 @@
 use Rattle.std.specs.Prelude.{◌≡◌, ℕ, List, Option, Some, None, Result, Ok, Err}
 use Rattle.lfs_journal.specs.declared.journal_fault.JournalFault.{JournalFault}
 use Rattle.lfs_journal.specs.declared.journal_fault.JournalFault.TheVariants.{JournalFormat, Memory}
-use Rattle.lfs_journal.specs.Book.{Book, Spells}
+use Rattle.lfs_journal.specs.Book.{Book, SpellsJournal}
 
 -- the numbers of the faults
 abbrev pub journal_fault_number : JournalFault → ℕ
@@ -11,7 +11,7 @@ journal_fault_number Memory = 44
 
 -- no book is spelled so; that a growth of memory was refused says nothing of the bytes
 abbrev pub IsNoJournal : JournalFault → List ℕ → Type 0
-IsNoJournal JournalFormat bytes = (j : Book) → Spells bytes j → ⊥
+IsNoJournal JournalFormat bytes = (j : Book) → SpellsJournal bytes j → ⊥
 IsNoJournal Memory bytes = Unit {0}
 
 -- there is nothing to read, unless memory was refused

@@ -23,8 +23,8 @@ unfoldable pub block_at : ℕ → List ℕ → Option (List ℕ × List ℕ)
 block_at size bytes = if nat_lt (length bytes) size then None else Some (take size bytes, drop size bytes)
 
 -- whether each byte is 0xff
-abbrev pub is_erased : List ℕ → Bool
-is_erased bytes = list_all (λ b. b == 0xff) bytes
+abbrev pub is_all_erased : List ℕ → Bool
+is_all_erased bytes = list_all (λ b. b == 0xff) bytes
 
 -- A change of one block, whose number is from `least` to below the count after. Where the image has no such block before, it is
 -- erased before.
@@ -34,7 +34,7 @@ change_at size before after least bytes = do
   if nat_lt n.0 least || nat_le after n.0 then None else (do
     old ← block_at size n.1
     new ← block_at size old.1
-    if nat_le before n.0 && not (is_erased old.0)
+    if nat_le before n.0 && not (is_all_erased old.0)
         then None
         else Some (record { number = n.0; old = old.0; new = new.0 }, new.1))
 

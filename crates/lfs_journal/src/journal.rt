@@ -33,7 +33,7 @@ impl Model for Journal {
 
 impl Journal {
     ghost use Rattle.std.specs.Prelude.{◌≡◌, ◌++◌, length, IfOk, IfErr, IfSome};
-    ghost use Rattle.lfs_journal.specs.Book.{IsBook, IsBookOf, Spells, book_of, journal_bytes};
+    ghost use Rattle.lfs_journal.specs.Book.{IsBook, IsBookOf, SpellsJournal, book_of, journal_bytes};
     ghost use Rattle.lfs_journal.specs.Faults.{Gives, IsNoJournal};
     ghost use Rattle.lfs_journal.specs.Reading.{read_book};
 
@@ -72,7 +72,7 @@ impl Journal {
     /// The journal that the bytes spell, all of them, in version 1 or 2. `JournalFormat` where they spell none, and `Memory`
     /// says only that a growth was refused.
     pub fn read(alloc: Global, bytes: &[u8]) -> Result<Journal, JournalFault>
-        ensures spelled { IfOk result (λ journal. Spells bytes.now journal) }
+        ensures spelled { IfOk result (λ journal. SpellsJournal bytes.now journal) }
         ensures refused { IfErr result (λ fault. IsNoJournal fault bytes.now) }
     {
         Journal::read_complete(alloc, bytes)

@@ -4,7 +4,7 @@
 ghost use Rattle.std.specs.Prelude.{◌≡◌, ◌<◌, ◌≤◌, ◌+◌, length, IfOk};
 ghost use Rattle.lfs_block.specs.Geometry.{IsGeometry};
 ghost use Rattle.lfs_journal.specs.Faults.{Gives};
-ghost use Rattle.lfs_journal.specs.Reading.{word_at, block_at, is_erased, change_at, changes_at, counts_at, patch_at, patches_at, is_growth, is_version, is_head, head_at};
+ghost use Rattle.lfs_journal.specs.Reading.{word_at, block_at, is_all_erased, change_at, changes_at, counts_at, patch_at, patches_at, is_growth, is_version, is_head, head_at};
 ghost use Rattle.lfs_journal.specs.HeadSeen.{head_seen, counts_seen};
 ghost use Rattle.lfs_journal.specs.Book.{most_changes};
 
@@ -71,7 +71,7 @@ fn block_at(size: u32, bytes: &[u8]) -> Result<(&[u8], &[u8]), JournalFault>
 
 /// Whether each byte is 0xff.
 fn is_erased(bytes: &[u8]) -> bool
-    ensures { result ≡ is_erased bytes.now }
+    ensures { result ≡ is_all_erased bytes.now }
 {
     bytes.iter().all(|byte| *byte == 0xff)
 }

@@ -14,7 +14,7 @@ use Rattle.lfs_meta.specs.Laws.{NamesAreDecided}
 use Rattle.lfs_meta.specs.Name.{IsName}
 use Rattle.lfs_meta.specs.Body.{body_bytes}
 use Rattle.lfs_meta.specs.Complete.{IsComplete}
-use Rattle.lfs_meta.specs.Weighing.{attributes_weight, weights, weight as stored_weight}
+use Rattle.lfs_meta.specs.Weighing.{attributes_weight, weights, weight_as_stored as stored_weight}
 use Rattle.lfs_meta.specs.Complete.{kind_takes_body, kind_takes_name}
 use Rattle.lfs_fs.specs.AsStored.{stored_kind, stored_body, stored_entry}
 use Rattle.lfs_fs.specs.Directory.{Part, Directory, parts, entries, thread}

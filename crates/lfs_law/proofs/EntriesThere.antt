@@ -10,7 +10,7 @@ use Rattle.lfs_fs.specs.Path.{Path}
 use Rattle.lfs_fs.specs.Tree.{entry_at, entry_in}
 use Rattle.lfs_fs.specs.Volume.{Volume}
 use Rattle.lfs_command.specs.Parent.{parent_of}
-use Rattle.lfs_law.specs.PairWalk.{name_in, pair_at}
+use Rattle.lfs_law.specs.PairWalk.{directory_name, pair_at}
 use Rattle.lfs_law.proofs.ParentSteps.{split_behind}
 use Rattle.lfs_law.proofs.PairWalks.{walks_go_by_pairs, with_name}
 use Rattle.lfs_law.proofs.Walks.{last_name}
@@ -29,6 +29,6 @@ stands_at_parent v path k n parent = elim (last_name path) [
   | inr s ↦
       ap (entry_at v) s.2 ∙ (walks_go_by_pairs v).last s.0 s.1
       ∙ in_parent v.directories k n s.1 (pair_at v.directories root s.0)
-      (sym (ap (option_and_then (name_in v.directories)) (split_behind s.0 s.1))
+      (sym (ap (option_and_then (directory_name v.directories)) (split_behind s.0 s.1))
       ∙ sym ((walks_go_by_pairs v).parent (s.0 ++ s.1 ∷ [])) ∙ ap (parent_of v) (sym s.2) ∙ parent)
 ]

@@ -16,7 +16,7 @@ use Rattle.lfs_block.specs.Bytes.{IsBytes}
 use Rattle.lfs_block.specs.Checksum.{crc}
 use Rattle.lfs_block.specs.Disk.{Disk, IsDisk, block_of}
 use Rattle.lfs_block.proofs.PutLemmas.{IsBytes-drop, IsBytes-take}
-use Rattle.lfs_tag.specs.Tag.{kind_of, id_of}
+use Rattle.lfs_tag.specs.Tag.{type_of, id_of}
 use Rattle.lfs_tag.specs.Commit.{Item, Commit, tags_bytes, last_word, covered_bytes, commit_bytes, next_word}
 use Rattle.lfs_tag.specs.Laws.{BlocksHaveALog}
 use Rattle.lfs_tag.specs.Log.{IsLog, commits_bytes, log_tags}
@@ -34,7 +34,7 @@ use Rattle.lfs_meta.specs.Laws.{IsLive, LiveBlocksAreRead}
 use Rattle.lfs_meta.specs.LiveBlock.{live_block, live_log, tags_of, stored_part_of}
 use Rattle.lfs_meta.specs.Name.{Name}
 use Rattle.lfs_meta.specs.Part.{RawPart, StoredPart, empty_part}
-use Rattle.lfs_meta.specs.Replay.{acted, step_by, step, replay_from, replay, at_entry, up_to, named_by, embodied_by, attributed_by}
+use Rattle.lfs_meta.specs.Replay.{acted, replay_by, step, replay_from, replay, at_entry, up_to, named_by, embodied_by, attributed_by}
 use Rattle.lfs_meta.specs.Complete.{kind_takes_body, kind_takes_name, complete_by, complete, all_complete, complete_part}
 use Rattle.lfs_meta.proofs.HeldPartLemmas.{block_bytes, same_tags}
 use Rattle.lfs_block.proofs.BlockLens.{length-block}
@@ -139,20 +139,20 @@ PartHas p = All RawHas p.entries
 
 -- Each type of tag has the action of one of eight types, the last of which has none.
 by_action : (k : ℕ) (p : RawPart) (t : Item) (G : Option RawPart → Type 0)
-    → G (step_by (action_of 0x401) p t) → G (step_by (action_of 0x4ff) p t) → G (step_by (action_of 0x001) p t)
-    → G (step_by (action_of 0x200) p t)
-    → G (step_by (action_of 0x300) p t) → G (step_by (action_of 0x600) p t) → G (step_by (action_of 0x7ff) p t)
-    → G (step_by (action_of 0x000) p t)
-    → G (step_by (action_of k) p t)
+    → G (replay_by (action_of 0x401) p t) → G (replay_by (action_of 0x4ff) p t) → G (replay_by (action_of 0x001) p t)
+    → G (replay_by (action_of 0x200) p t)
+    → G (replay_by (action_of 0x300) p t) → G (replay_by (action_of 0x600) p t) → G (replay_by (action_of 0x7ff) p t)
+    → G (replay_by (action_of 0x000) p t)
+    → G (replay_by (action_of k) p t)
 unfolding action_of
 by_action k p t G creates deletes names embodies attributes tails deltas none =
-    pick (k == 0x401) (λ o. G (step_by o p t)) creates
-    (pick (k == 0x4ff) (λ o. G (step_by o p t)) deletes
-    (pick ((k == 0x001) || (k == 0x002) || (k == 0x0ff)) (λ o. G (step_by o p t)) names
-    (pick ((k == 0x200) || (k == 0x201) || (k == 0x202)) (λ o. G (step_by o p t)) embodies
-    (pick (k / 2 ^ 8 == 3) (λ o. G (step_by o p t)) attributes
-    (pick ((k == 0x600) || (k == 0x601)) (λ o. G (step_by o p t)) tails
-    (pick (k == 0x7ff) (λ o. G (step_by o p t)) deltas none))))))
+    pick (k == 0x401) (λ o. G (replay_by o p t)) creates
+    (pick (k == 0x4ff) (λ o. G (replay_by o p t)) deletes
+    (pick ((k == 0x001) || (k == 0x002) || (k == 0x0ff)) (λ o. G (replay_by o p t)) names
+    (pick ((k == 0x200) || (k == 0x201) || (k == 0x202)) (λ o. G (replay_by o p t)) embodies
+    (pick (k / 2 ^ 8 == 3) (λ o. G (replay_by o p t)) attributes
+    (pick ((k == 0x600) || (k == 0x601)) (λ o. G (replay_by o p t)) tails
+    (pick (k == 0x7ff) (λ o. G (replay_by o p t)) deltas none))))))
 
 taken : (t : Bool) (p q : RawPart) → (if t then None else Some p) ≡ Some q → PartHas p → PartHas q
 taken true p q e all = cc
@@ -161,7 +161,7 @@ taken false p q e all = let same : p ≡ q = cc in subst PartHas same all
 step_has : (p q : RawPart) (t : Item) → step p t ≡ Some q → HasBytes t → PartHas p → PartHas q
 unfolding action_of acted
 step_has p q t e item all =
-    by_action (kind_of t.word) p t (λ o. o ≡ Some q → PartHas q)
+    by_action (type_of t.word) p t (λ o. o ≡ Some q → PartHas q)
     (λ is. taken _ _ q is (All-append RawHas (take (id_of t.word) p.entries) (blank ∷ drop (id_of t.word) p.entries)
     (All-take RawHas (id_of t.word) p.entries all)
     (All-cons RawHas blank (drop (id_of t.word) p.entries) blank_has (All-drop RawHas (id_of t.word) p.entries all))))
@@ -170,7 +170,7 @@ step_has p q t e item all =
     (All-drop RawHas (suc (id_of t.word)) p.entries all)))
     (λ is. taken _ _ q is (at_has (id_of t.word) (named_by t) (up_to (id_of t.word) p.entries) (λ e has. has)
     (up_to_has (id_of t.word) p.entries all)))
-    (λ is. taken _ _ q is (at_has (id_of t.word) (embodied_by t) p.entries (λ e has. named_has (kind_of t.word) t.content item) all))
+    (λ is. taken _ _ q is (at_has (id_of t.word) (embodied_by t) p.entries (λ e has. named_has (type_of t.word) t.content item) all))
     (λ is. taken _ _ q is (at_has (id_of t.word) (attributed_by t) p.entries (λ e has. has) all))
     (λ is. taken _ _ q is all)
     (λ is. taken _ _ q is all)

@@ -22,7 +22,7 @@ use Rattle.lfs_fs.specs.Superblock.{IsLimits, header_of, superblock_entry, word_
 use Rattle.lfs_fs.specs.Thread.{Link, links_of, links, tail_to, hard_to}
 use Rattle.lfs_fs.specs.Volume.{Volume}
 use Rattle.lfs_law.specs.CutWritten.{HeldBytesAreMade, MadeBytesSay}
-use Rattle.lfs_law.specs.SuperblockBytes.{superblock_words, volume_bytes}
+use Rattle.lfs_law.specs.SuperblockBytes.{new_superblock_words, volume_bytes}
 use Rattle.lfs_law.proofs.HeldBytes.{StoredHas, held_have, Spell, spelled}
 
 -- ---- the root's first part
@@ -69,7 +69,7 @@ bytes_of read logs d disk bytes attributes (e ∷ ds) begins each =
 word_is : (xs ys : List ℕ) (w : ℕ) → xs ≡ ys → from_le_bytes w32 (take 4 ys) ≡ w → from_le_bytes w32 (take 4 xs) ≡ w
 word_is xs ys w same is = ap (λ (zs : List ℕ). from_le_bytes w32 (take 4 zs)) same ∙ is
 
-spells : (v : Volume) (bytes : List ℕ) → SaysVolume v bytes → Spell (superblock_words v.size v.count v.limits) bytes
+spells : (v : Volume) (bytes : List ℕ) → SaysVolume v bytes → Spell (new_superblock_words v.size v.count v.limits) bytes
 spells v bytes says =
     let two : drop 4 (drop 4 bytes) ≡ drop 8 bytes = drop-drop 4 4 bytes in
     let three : drop 4 (drop 4 (drop 4 bytes)) ≡ drop 12 bytes = ap (λ (xs : List ℕ). drop 4 xs) two ∙ drop-drop 4 8 bytes in
@@ -88,7 +88,7 @@ spells v bytes says =
 pub held_bytes_are_made : LiveBlocksAreRead → BlocksHaveALog → HeldBytesAreMade
 unfolding volume_bytes
 held_bytes_are_made read logs d v held disk sound =
-    spelled (superblock_words v.size v.count v.limits) held.bytes held.superblock.len
+    spelled (new_superblock_words v.size v.count v.limits) held.bytes held.superblock.len
     (bytes_of read logs d disk held.bytes v.attributes v.directories sound.starts held.each)
     (spells v held.bytes held.superblock)
 

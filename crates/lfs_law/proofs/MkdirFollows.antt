@@ -9,7 +9,7 @@ use Rattle.lfs_meta.specs.Name.{Name}
 use Rattle.lfs_meta.specs.Body.{Pair}
 use Rattle.lfs_fs.specs.NameOrder.{NamesAreOrdered}
 use Rattle.lfs_fs.specs.Path.{Path}
-use Rattle.lfs_fs.specs.Graph.{step}
+use Rattle.lfs_fs.specs.Graph.{entry_within}
 use Rattle.lfs_fs.specs.Pair.{unordered, same_pair}
 use Rattle.lfs_fs.specs.Entry.{Directory_at, Entry, target, is_named}
 use Rattle.lfs_fs.specs.Directory.{Directory, entries, key, begins_at}
@@ -105,7 +105,7 @@ mkdir_follows v p pair ordered sound at fresh fits new =
     } in
     let alike : Alike v (with_directories v ds) (entry_at v (at.parent.front ++ n ∷ [])) (Some e) = λ m.
     add_edges k d linked refl none_there (key d) m ∙ nothing_in linked (key d) m none_there
-    ∙ sym (ap (step target (entry_in v.directories) m) old) in
+    ∙ sym (ap (entry_within target (entry_in v.directories) m) old) in
     let follows : Puts v (with_directories v ds) p (Some (Dir [])) (λ b. 0) (λ b. times b (pair.0 ∷ pair.1 ∷ [])) = record {
       sound = edge_sound v ds at.parent.front k n (Some e) (of_both none none) (of_both (of_entry e) (of_directory d)) one alike
           (in_a_row none (of_entry e) none (of_directory d) v.directories linked ds first second)

@@ -5,7 +5,7 @@ use Rattle.std.proofs.lemmas.Option.{none-some, same_Some}
 use Rattle.lfs_meta.specs.Name.{Name}
 use Rattle.lfs_meta.specs.Body.{Pair}
 use Rattle.lfs_fs.specs.Path.{Path}
-use Rattle.lfs_fs.specs.Graph.{step, walk}
+use Rattle.lfs_fs.specs.Graph.{entry_within, walk}
 use Rattle.lfs_fs.specs.Entry.{Entry, target}
 use Rattle.lfs_fs.specs.Volume.{Volume}
 use Rattle.lfs_fs.specs.Tree.{entry_in, top, entry_at, Node, node, tree, Reached}
@@ -128,11 +128,11 @@ moved_below {v} {w} {front} {back} {k} {j} {n} {m} {old} {new} c l = by_last_nam
     first : entry_at w ((back ++ m ∷ []) ++ l ∷ []) ≡ entry_at v ((front ++ n ∷ []) ++ l ∷ [])
     first =
         walk-snoc target (entry_in w.directories) (Some (top w)) (back ++ m ∷ []) l
-        ∙ ap (step target (entry_in w.directories) l) (moved_here c)
+        ∙ ap (entry_within target (entry_in w.directories) l) (moved_here c)
         ∙ step_alike target (entry_in w.directories) l (Some new) (Some old) c.leads
         ∙ step_same target (entry_in v.directories) (entry_in w.directories) l (Some old)
         (λ e i here leads. edge_below c [] l e i (from_here ∙ here) leads)
-        ∙ ap (step target (entry_in v.directories) l) (sym c.from)
+        ∙ ap (entry_within target (entry_in v.directories) l) (sym c.from)
         ∙ sym (walk-snoc target (entry_in v.directories) (Some (top v)) (front ++ n ∷ []) l)
 
     more : (rest : Path) (x : Name) → entry_at w ((back ++ m ∷ []) ++ l ∷ rest) ≡ entry_at v ((front ++ n ∷ []) ++ l ∷ rest)

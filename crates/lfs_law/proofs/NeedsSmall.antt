@@ -10,7 +10,7 @@ use Rattle.lfs_meta.specs.Name.{Name}
 use Rattle.lfs_meta.specs.Attribute.{Attributes, set_attribute, remove_attribute}
 use Rattle.lfs_meta.specs.Body.{Pair}
 use Rattle.lfs_meta.specs.Runs.{runs_after, run_takes}
-use Rattle.lfs_file.specs.Capacity.{least_from, least_blocks, room as file_room}
+use Rattle.lfs_file.specs.Capacity.{least_from, least_blocks, bytes_of_blocks as file_room}
 use Rattle.lfs_fs.specs.NameOrder.{NamesAreOrdered, precedes}
 use Rattle.lfs_fs.specs.Path.{Path}
 use Rattle.lfs_fs.specs.Entry.{Body, Directory_at, Entry, is_named, target}

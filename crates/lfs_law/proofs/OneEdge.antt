@@ -6,7 +6,7 @@ use Rattle.lfs_meta.specs.Name.{Name}
 use Rattle.lfs_meta.specs.Attribute.{Attributes}
 use Rattle.lfs_meta.specs.Body.{Pair}
 use Rattle.lfs_fs.specs.Path.{Path}
-use Rattle.lfs_fs.specs.Graph.{step}
+use Rattle.lfs_fs.specs.Graph.{entry_within}
 use Rattle.lfs_fs.specs.Pair.{root}
 use Rattle.lfs_fs.specs.Entry.{Directory_at, Entry, target}
 use Rattle.lfs_fs.specs.Volume.{Volume}
@@ -31,7 +31,7 @@ pub record OneEdge (v w : Volume) (front : Path) (k : Pair) (n : Name) (x : Opti
 
 -- the same entries stand right below x in w, and below old in v
 abbrev pub Alike : Volume → Volume → Option Entry → Option Entry → Type 0
-Alike v w old x = (m : Name) → step target (entry_in w.directories) m x ≡ step target (entry_in v.directories) m old
+Alike v w old x = (m : Name) → entry_within target (entry_in w.directories) m x ≡ entry_within target (entry_in v.directories) m old
 
 abbrev topped : Attributes → Entry
 topped a = record { name = []; body = Directory_at root; attributes = a }
@@ -45,7 +45,7 @@ pub entry_under : (v : Volume) (front : Path) (holder : Entry) (k : Pair) (n : N
     → entry_at v (front ++ n ∷ []) ≡ entry_in v.directories k n
 entry_under v front holder k n here leads =
     walk-snoc target (entry_in v.directories) (Some (top v)) front n
-    ∙ ap (step target (entry_in v.directories) n) here
+    ∙ ap (entry_within target (entry_in v.directories) n) here
     ∙ ap (option_and_then (λ (j : Pair). entry_in v.directories j n)) leads
 
 -- the place of the edge has one path
@@ -93,10 +93,10 @@ entries_after {v} {w} {front} {k} {n} {x} c alike = by_last_name (λ (p : Path).
       | inr different ↦ (elim (same_path_or_not (front ++ n ∷ []) p) [
         | inl is ↦
             walk-snoc target (entry_in w.directories) (Some (top w)) p m
-            ∙ ap (step target (entry_in w.directories) m) (before ∙ ap (put_at_path (front ++ n ∷ []) x (entry_at v)) (sym is)
+            ∙ ap (entry_within target (entry_in w.directories) m) (before ∙ ap (put_at_path (front ++ n ∷ []) x (entry_at v)) (sym is)
             ∙ put_at_there (front ++ n ∷ []) x (entry_at v))
             ∙ alike m
-            ∙ ap (λ (q : Path). step target (entry_in v.directories) m (entry_at v q)) is
+            ∙ ap (λ (q : Path). entry_within target (entry_in v.directories) m (entry_at v q)) is
             ∙ sym (walk-snoc target (entry_in v.directories) (Some (top v)) p m)
             ∙ sym (put_at_other (front ++ n ∷ []) x (entry_at v) (p ++ m ∷ []) different)
         | inr apart ↦

@@ -4,7 +4,7 @@ use Rattle.std.specs.Option.{option_and_then, option_map}
 use Rattle.lfs_meta.specs.Name.{Name}
 use Rattle.lfs_meta.specs.Attribute.{Attributes}
 use Rattle.lfs_meta.specs.Body.{Pair}
-use Rattle.lfs_fs.specs.Graph.{step, walk}
+use Rattle.lfs_fs.specs.Graph.{entry_within, walk}
 use Rattle.lfs_fs.specs.Path.{Path}
 use Rattle.lfs_fs.specs.Pair.{root, unordered}
 use Rattle.lfs_fs.specs.Entry.{Body, Inline, Chain, Directory_at, Entry, body_target, target}
@@ -14,7 +14,7 @@ use Rattle.lfs_fs.specs.Tree.{entry_in, entry_at, top, node, node_of, tree}
 use Rattle.lfs_command.specs.declared.refusal.Refusal.{Refusal}
 use Rattle.lfs_command.specs.Parent.{split_last}
 use Rattle.lfs_command.specs.Verdict.{walk_refusal_at, walk_refusal}
-use Rattle.lfs_law.specs.PairWalk.{pair_at, name_in, WalksGoByPairs}
+use Rattle.lfs_law.specs.PairWalk.{pair_at, directory_name, WalksGoByPairs}
 use Rattle.lfs_law.specs.WalkRefusal.{goes_on, refuses_at, walk_from, walk_all, WalksAreRefusedByPairs}
 use Rattle.lfs_law.proofs.OneEdge.{entry_under}
 use Rattle.lfs_law.proofs.OutlinesFollow.{parent_in, parent_split}
@@ -36,7 +36,7 @@ leads_from : (ds : List Directory) (here : Option Entry) (path : Path)
     → option_and_then target (walk target (entry_in ds) here path) ≡ option_and_then (λ k. pair_at ds k path) (option_and_then target here)
 leads_from ds here [] = some_again (option_and_then target here)
 leads_from ds here (n ∷ ns) =
-    leads_from ds (step target (entry_in ds) n here) ns
+    leads_from ds (entry_within target (entry_in ds) n here) ns
     ∙ ap (λ (o : Option Entry). option_and_then (λ j. pair_at ds j ns) (option_and_then target o))
     (step_by_target target (entry_in ds) n here)
     ∙ step_by ds n ns (option_and_then target here)
@@ -58,7 +58,7 @@ parent_leads : (n : Name) (o : Option Entry) → parent_in n o ≡ with_name n (
 parent_leads n None = refl
 parent_leads n (Some e) = refl
 
-parent_by : (v : Volume) (o : Option (Path × Name)) → parent_split v o ≡ option_and_then (name_in v.directories) o
+parent_by : (v : Volume) (o : Option (Path × Name)) → parent_split v o ≡ option_and_then (directory_name v.directories) o
 parent_by v None = refl
 parent_by v (Some s) = parent_leads s.1 (entry_at v s.0) ∙ ap (with_name s.1) (leads_to v s.0)
 

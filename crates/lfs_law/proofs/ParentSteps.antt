@@ -12,7 +12,7 @@ use Rattle.lfs_command.specs.declared.refusal.Refusal.{Refusal}
 use Rattle.lfs_command.specs.declared.refusal.Refusal.TheVariants.{IsRoot}
 use Rattle.lfs_command.specs.Parent.{split_last, behind_name, parent_of}
 use Rattle.lfs_law.specs.ParentChecks.{parent_checks}
-use Rattle.lfs_law.specs.PairWalk.{pair_at, name_in}
+use Rattle.lfs_law.specs.PairWalk.{pair_at, directory_name}
 use Rattle.lfs_command.specs.Verdict.{first_refusal, refuse_if, is_root, walk_refusal}
 use Rattle.lfs_law.specs.WalkRefusal.{walk_all}
 use Rattle.lfs_law.proofs.PairWalks.{walks_go_by_pairs, walks_are_refused_by_pairs}
@@ -35,7 +35,7 @@ pub is_parent : (v : Volume) (path front : Path) (n : Name) (k : Pair) → path 
     → parent_of v path ≡ Some (k, n)
 is_parent v path front n k is leads =
     ap (parent_of v) is ∙ (walks_go_by_pairs v).parent (front ++ n ∷ [])
-    ∙ ap (option_and_then (name_in v.directories)) (split_behind front n)
+    ∙ ap (option_and_then (directory_name v.directories)) (split_behind front n)
     ∙ ap (option_map (λ (j : Pair). (j, n))) leads
 
 checked : (v : Volume) (path front : Path) (n : Name) → path ≡ front ++ n ∷ []

@@ -10,7 +10,7 @@ use Rattle.lfs_meta.specs.Name.{Name}
 use Rattle.lfs_meta.specs.Body.{Pair}
 use Rattle.lfs_fs.specs.NameOrder.{NamesAreOrdered}
 use Rattle.lfs_fs.specs.Path.{Path}
-use Rattle.lfs_fs.specs.Graph.{step}
+use Rattle.lfs_fs.specs.Graph.{entry_within}
 use Rattle.lfs_fs.specs.Pair.{root, same_pair}
 use Rattle.lfs_fs.specs.Entry.{Entry, target, is_named}
 use Rattle.lfs_fs.specs.Directory.{Directory, entries, key, begins_at}
@@ -165,7 +165,7 @@ directory_gone v p e j ordered sound at here leads bare =
     } in
     let led : option_and_then target (entry_at v (at.parent.front ++ n ∷ [])) ≡ Some j = ap (option_and_then target) old ∙ leads in
     let alike : Alike v (with_directories v ds) (entry_at v (at.parent.front ++ n ∷ [])) None = λ m.
-    sym (ap (step target (entry_in v.directories) m) old ∙ ap (option_and_then (λ (i : Pair). entry_in v.directories i m)) leads
+    sym (ap (entry_within target (entry_in v.directories) m) old ∙ ap (option_and_then (λ (i : Pair). entry_in v.directories i m)) leads
     ∙ no_entry v.directories j was.0 m was.1 was_empty) in
     record {
       sound = edge_sound v ds at.parent.front k n None (of_both (of_entry e) (of_directory now.0)) (of_both none none) one alike

@@ -3,7 +3,7 @@ use Rattle.std.proofs.Common.{◌≡◌, ◌⊎◌, List, [], ◌∷◌, ◌++�
 use Rattle.std.proofs.Common.{inr}
 use Rattle.std.proofs.lemmas.Option.{same_Some}
 use Rattle.std.specs.Option.{option_and_then}
-use Rattle.lfs_fs.specs.Graph.{step, walk}
+use Rattle.lfs_fs.specs.Graph.{entry_within, walk}
 use Rattle.lfs_fs.proofs.EntryAtLemmas.{by_last_name, walk-append, step_some}
 
 -- ---- paths by their last name
@@ -16,7 +16,7 @@ last_name {N} p = by_last_name (λ (p : List N). (p ≡ []) ⊎ ((q : List N) ×
 -- ---- walks
 
 pub walk-snoc : {K N E : Type 0} (target : E → Option K) (edge : K → N → Option E) (here : Option E) (p : List N) (n : N)
-    → walk target edge here (p ++ n ∷ []) ≡ step target edge n (walk target edge here p)
+    → walk target edge here (p ++ n ∷ []) ≡ entry_within target edge n (walk target edge here p)
 walk-snoc target edge here p n = walk-append target edge here p (n ∷ [])
 
 pub walk-none : {K N E : Type 0} (target : E → Option K) (edge : K → N → Option E) (p : List N) → walk target edge None p ≡ None
@@ -36,17 +36,17 @@ walk_same target edge other same here [] = refl
 walk_same target edge other same None (n ∷ p) = walk_same target edge other same None p
 walk_same target edge other same (Some e) (n ∷ p) =
     ap (λ o. walk target other o p) (led_same edge other n (λ k. same k n) (target e))
-    ∙ walk_same target edge other same (step target edge n (Some e)) p
+    ∙ walk_same target edge other same (entry_within target edge n (Some e)) p
 
--- a step goes by what the entry leads to
+-- a entry_within goes by what the entry leads to
 pub step_by_target : {K N E : Type 0} (target : E → Option K) (edge : K → N → Option E) (n : N) (here : Option E)
-    → step target edge n here ≡ option_and_then (λ k. edge k n) (option_and_then target here)
+    → entry_within target edge n here ≡ option_and_then (λ k. edge k n) (option_and_then target here)
 step_by_target target edge n None = refl
 step_by_target target edge n (Some e) = refl
 
 -- steps from entries that lead to one place
 pub step_alike : {K N E : Type 0} (target : E → Option K) (edge : K → N → Option E) (n : N) (here there : Option E)
-    → option_and_then target here ≡ option_and_then target there → step target edge n here ≡ step target edge n there
+    → option_and_then target here ≡ option_and_then target there → entry_within target edge n here ≡ entry_within target edge n there
 step_alike target edge n here there same = step_by_target target edge n here ∙ ap (option_and_then (λ k. edge k n)) same
     ∙ sym (step_by_target target edge n there)
 
@@ -57,7 +57,7 @@ led_along edge other n (Some k) same = same k refl
 
 -- steps along the same edge
 pub step_same : {K N E : Type 0} (target : E → Option K) (edge other : K → N → Option E) (n : N) (here : Option E)
-    → ((e : E) (k : K) → here ≡ Some e → target e ≡ Some k → other k n ≡ edge k n) → step target other n here ≡ step target edge n here
+    → ((e : E) (k : K) → here ≡ Some e → target e ≡ Some k → other k n ≡ edge k n) → entry_within target other n here ≡ entry_within target edge n here
 step_same target edge other n None same = refl
 step_same target edge other n (Some e) same = led_along edge other n (target e) (λ k is. same e k refl is)
 
@@ -67,7 +67,7 @@ pub snoc_same : {K N E : Type 0} (target : E → Option K) (edge other : K → N
     → ((e : E) (k : K) → walk target edge here q ≡ Some e → target e ≡ Some k → other k n ≡ edge k n)
     → walk target other there (p ++ n ∷ []) ≡ walk target edge here (q ++ n ∷ [])
 snoc_same target edge other here there p q n fronts same =
-    walk-snoc target other there p n ∙ ap (step target other n) fronts ∙ step_same target edge other n (walk target edge here q) same
+    walk-snoc target other there p n ∙ ap (entry_within target other n) fronts ∙ step_same target edge other n (walk target edge here q) same
     ∙ sym (walk-snoc target edge here q n)
 
 -- ---- one path to each place

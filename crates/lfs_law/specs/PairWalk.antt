@@ -17,15 +17,15 @@ pair_at ds k [] = Some k
 pair_at ds k (n ∷ ns) = option_and_then (λ j. pair_at ds j ns) (option_and_then target (entry_in ds k n))
 
 -- a name in the directory at a path
-abbrev pub name_in : List Directory → Path × Name → Option (Pair × Name)
-name_in ds s = option_map (λ (k : Pair). (k, s.1)) (pair_at ds root s.0)
+abbrev pub directory_name : List Directory → Path × Name → Option (Pair × Name)
+directory_name ds s = option_map (λ (k : Pair). (k, s.1)) (pair_at ds root s.0)
 
 -- Walks go by pairs: which directory a path leads to, what stands at its last name, and where that belongs to.
 pub record GoByPairs (v : Volume) : Type 0 where
   pub leads : (path : Path) → option_and_then target (entry_at v path) ≡ pair_at v.directories root path
   pub last : (path : Path) (n : Name) → entry_at v (path ++ n ∷ []) ≡ option_and_then (λ k. entry_in v.directories k n)
       (pair_at v.directories root path)
-  pub parent : (path : Path) → parent_of v path ≡ option_and_then (name_in v.directories) (split_last path)
+  pub parent : (path : Path) → parent_of v path ≡ option_and_then (directory_name v.directories) (split_last path)
 
 -- the law: they do
 abbrev pub WalksGoByPairs : Type 0

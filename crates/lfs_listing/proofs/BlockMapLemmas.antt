@@ -12,21 +12,21 @@ use Rattle.lfs_fs.specs.Row.{Row}
 use Rattle.lfs_fs.specs.Volume.{Volume}
 use Rattle.lfs_json.specs.declared.form.Form.{Form}
 use Rattle.lfs_json.specs.declared.form.Form.TheVariants.{Text, Json}
-use Rattle.lfs_listing.specs.BlockMap.{Run, block_map, block_line, block_users, body_blocks, has_block, put_before, runs_from, user, user_row}
-use Rattle.lfs_listing.specs.Using.{may_have_blocks, part_line, part_of, row_part, run_line, user_part}
+use Rattle.lfs_listing.specs.BlockMap.{BlockRun, block_map, block_line, block_users, body_blocks, has_block, put_before, runs_from, user, user_row}
+use Rattle.lfs_listing.specs.Using.{may_have_blocks, part_line, part_of_user, row_part, run_line, user_part}
 use Rattle.lfs_json.proofs.BlockLemmas.{run_line_is}
 
 -- ---- runs are of the users that there are
 
-abbrev AllOf : (Option ℕ → Type 0) → List Run → Type 0
+abbrev AllOf : (Option ℕ → Type 0) → List BlockRun → Type 0
 AllOf P runs = AllByRecursion (λ run. P run.user) runs
 
-put_all_by : (P : Option ℕ → Type 0) (t : Bool) (b : ℕ) (u : Option ℕ) (run : Run) (runs : List Run) → P u → P run.user → AllOf P runs
+put_all_by : (P : Option ℕ → Type 0) (t : Bool) (b : ℕ) (u : Option ℕ) (run : BlockRun) (runs : List BlockRun) → P u → P run.user → AllOf P runs
     → AllOf P (cond t (record { first = b; last = run.last; user = u } ∷ runs) (record { first = b; last = b; user = u } ∷ run ∷ runs))
 put_all_by P true b u run runs here first h = (here, h)
 put_all_by P false b u run runs here first h = (here, (first, h))
 
-put_all : (P : Option ℕ → Type 0) (b : ℕ) (u : Option ℕ) (runs : List Run) → P u → AllOf P runs → AllOf P (put_before b u runs)
+put_all : (P : Option ℕ → Type 0) (b : ℕ) (u : Option ℕ) (runs : List BlockRun) → P u → AllOf P runs → AllOf P (put_before b u runs)
 put_all P b u [] here h = (here, tt)
 put_all P b u (run ∷ runs) here h = put_all_by P (option_eq nat_eq run.user u) b u run runs here h.0 h.1
 
@@ -34,7 +34,7 @@ runs_all : (P : Option ℕ → Type 0) (b : ℕ) (us : List (Option ℕ)) → Al
 runs_all P b [] h = tt
 runs_all P b (u ∷ us) h = put_all P b u (runs_from (b + 1) us) h.0 (runs_all P (b + 1) us h.1)
 
-lines_agree : (form : Form) (f g : Option ℕ → List ℕ) (runs : List Run) → AllOf (λ u. f u ≡ g u) runs
+lines_agree : (form : Form) (f g : Option ℕ → List ℕ) (runs : List BlockRun) → AllOf (λ u. f u ≡ g u) runs
     → flat_map (run_line form f) runs ≡ flat_map (run_line form g) runs
 lines_agree form f g [] h = refl
 lines_agree form f g (run ∷ runs) h =
@@ -42,11 +42,11 @@ lines_agree form f g (run ∷ runs) h =
     ∙ ap (λ (xs : List ℕ). run_line form g run ++ xs) (lines_agree form f g runs h.1)
 
 -- a line with what is said of its user is the run's
-line_agrees : (form : Form) (rows : List Row) (run : Run) → run_line form (λ u. user_part form (user_row rows u)) run ≡ block_line form rows run
+line_agrees : (form : Form) (rows : List Row) (run : BlockRun) → run_line form (λ u. user_part form (user_row rows u)) run ≡ block_line form rows run
 line_agrees Text rows run = refl
 line_agrees Json rows run = sym (run_line_is (user_row rows run.user) run.first run.last)
 
-blocks_agree : (form : Form) (rows : List Row) (runs : List Run)
+blocks_agree : (form : Form) (rows : List Row) (runs : List BlockRun)
     → flat_map (run_line form (λ u. user_part form (user_row rows u))) runs ≡ flat_map (block_line form rows) runs
 blocks_agree form rows [] = refl
 blocks_agree form rows (run ∷ runs) =
@@ -62,7 +62,7 @@ none_inline ds b (Directory_at pair) has = refl
 
 -- what is said of a user is said of its row
 abbrev PartsAlike : Form → List Row → Option ℕ → Type 0
-PartsAlike form rows u = part_of form (map (row_part form) rows) u ≡ user_part form (user_row rows u)
+PartsAlike form rows u = part_of_user form (map (row_part form) rows) u ≡ user_part form (user_row rows u)
 
 -- the row that is found passes
 found_by : (t : Bool) (p : Row → Bool) (n : ℕ) (r : Row) (rs : List Row) (k : ℕ) → p r ≡ t
@@ -100,12 +100,12 @@ all_mapped P f (x ∷ xs) h = (h x, all_mapped P f xs h)
 
 -- the lines of the runs are the text
 pub map_text : (form : Form) (v : Volume) (rows : List Row) (us : List (Option ℕ)) (parts : List (List ℕ)) → us ≡ block_users v rows
-    → parts ≡ map (row_part form) rows → flat_map (run_line form (part_of form parts)) (runs_from 0 us) ≡ block_map form v rows
+    → parts ≡ map (row_part form) rows → flat_map (run_line form (part_of_user form parts)) (runs_from 0 us) ≡ block_map form v rows
 map_text form v rows us parts users' parts' =
     let said : Option ℕ → List ℕ = λ u. user_part form (user_row rows u) in
-    ap (λ (xs : List (Option ℕ)). flat_map (run_line form (part_of form parts)) (runs_from 0 xs)) users'
-    ∙ ap (λ (ps : List (List ℕ)). flat_map (run_line form (part_of form ps)) (runs_from 0 (block_users v rows))) parts'
-    ∙ lines_agree form (part_of form (map (row_part form) rows)) said (runs_from 0 (block_users v rows))
+    ap (λ (xs : List (Option ℕ)). flat_map (run_line form (part_of_user form parts)) (runs_from 0 xs)) users'
+    ∙ ap (λ (ps : List (List ℕ)). flat_map (run_line form (part_of_user form ps)) (runs_from 0 (block_users v rows))) parts'
+    ∙ lines_agree form (part_of_user form (map (row_part form) rows)) said (runs_from 0 (block_users v rows))
     (runs_all (PartsAlike form rows) 0 (block_users v rows) (all_mapped (PartsAlike form rows) (user v rows) (range_with_len 0 v.count) (λ b.
     parts_by form v rows b (user v rows b) refl)))
     ∙ blocks_agree form rows (runs_from 0 (block_users v rows))

@@ -19,7 +19,7 @@ use Rattle.lfs_fs.proofs.DirectoryTableLemmas.{slice_get_left, slice_get_seam}
 use Rattle.lfs_fs.proofs.EntryAtLemmas.{found}
 use Rattle.lfs_fs.proofs.OrderedEndLemmas.{none_counted}
 use Rattle.lfs_fs.proofs.PairLemmas.{same_pair-is, same_pair-refl}
-use Rattle.lfs_listing.specs.DirectoryNumbers.{AreNumbers, FindDirectories, IsNumberAt, key_block, numbered}
+use Rattle.lfs_listing.specs.DirectoryNumbers.{AreNumbers, FindDirectories, IsNumberAt, key_block, directory_numbered}
 
 -- ---- numbers, directory by directory
 
@@ -153,7 +153,7 @@ lacks_by v k None none = refl
 lacks_by v k (Some i) none = lacks_at v k i (slice_get v.directories i) none refl
 
 finds_by : (v : Volume) → IsSound v → (numbers : List (Option ℕ)) → AreNumbers v.directories numbers → length numbers ≡ v.count → (k : Pair)
-    → (f : Option Directory) → find (begins_at k) v.directories ≡ f → numbered v.directories numbers k ≡ f
+    → (f : Option Directory) → find (begins_at k) v.directories ≡ f → directory_numbered v.directories numbers k ≡ f
 finds_by v sound numbers are long k None is = lacks_by v k (option_flatten (slice_get numbers k.0)) is
 finds_by v sound numbers are long k (Some e) is =
     let here = found (begins_at k) v.directories e is in

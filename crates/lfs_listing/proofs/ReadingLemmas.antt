@@ -8,7 +8,7 @@ use Rattle.lfs_block.specs.Disk.{Disk}
 use Rattle.lfs_file.specs.Content.{content}
 use Rattle.lfs_fs.specs.Entry.{Chain}
 use Rattle.lfs_fs.specs.Outlined.{blank}
-use Rattle.lfs_listing.specs.Comparing.{IsComplete, TakesOff}
+use Rattle.lfs_listing.specs.Comparing.{IsReadable, TakesOff}
 
 not_same : (xs ys : List ℕ) (b : Bool) → xs ≢ ys → (b ≡ true → xs ≡ ys) → false ≡ b
 not_same xs ys true other is = absurd (other (is refl))
@@ -53,30 +53,30 @@ module _ (old mid bytes front slice : List ℕ) (items left : List (List ℕ)) (
 
 -- ---- chains that can be read
 
-pub chain_long : (d : Disk) (size : ℕ) (blocks : List ℕ) → IsComplete d (Chain blocks (blank size)) → length (content d size blocks) ≡ size
+pub chain_long : (d : Disk) (size : ℕ) (blocks : List ℕ) → IsReadable d (Chain blocks (blank size)) → length (content d size blocks) ≡ size
 chain_long d size blocks complete =
     ap (λ (n : ℕ). length (content d n blocks)) (sym (length-replicate size 0)) ∙ complete.2 ∙ length-replicate size 0
 
 -- a chain's contents are all of as many bytes, or others
-pub chain_read : (d : Disk) (size : ℕ) (blocks old new bytes : List ℕ) (taken : Bool) → IsComplete d (Chain blocks (blank size))
+pub chain_read : (d : Disk) (size : ℕ) (blocks old new bytes : List ℕ) (taken : Bool) → IsReadable d (Chain blocks (blank size))
     → old ≡ bytes → length bytes ≡ size → TakesOff taken old new (content d size blocks) → taken ≡ bytes_eq (content d size blocks) bytes
 chain_read d size blocks old new bytes taken complete is many takes =
     taken_complete taken old new (content d size blocks) (chain_long d size blocks complete ∙ sym many ∙ ap length (sym is)) takes
     ∙ ap (λ (l : List ℕ). bytes_eq (content d size blocks) l) is
 
 -- two chains of one size
-pub chains_read : (d e : Disk) (size : ℕ) (blocks others old new : List ℕ) (taken : Bool) → IsComplete d (Chain blocks (blank size))
-    → IsComplete e (Chain others (blank size)) → old ≡ content e size others → TakesOff taken old new (content d size blocks)
+pub chains_read : (d e : Disk) (size : ℕ) (blocks others old new : List ℕ) (taken : Bool) → IsReadable d (Chain blocks (blank size))
+    → IsReadable e (Chain others (blank size)) → old ≡ content e size others → TakesOff taken old new (content d size blocks)
     → taken ≡ bytes_eq (content d size blocks) (content e size others)
 chains_read d e size blocks others old new taken complete second is takes =
     chain_read d size blocks old new (content e size others) taken complete is (chain_long e size others second) takes
 
 -- whatever disks these are
 pub files_read : (taken : Bool) (on : Disk × Disk) (d e : Disk) (size : ℕ) (blocks others old new : List ℕ) → (d, e) ≡ on
-    → IsComplete on.0 (Chain blocks (blank size)) → IsComplete on.1 (Chain others (blank size)) → old ≡ content e size others
+    → IsReadable on.0 (Chain blocks (blank size)) → IsReadable on.1 (Chain others (blank size)) → old ≡ content e size others
     → TakesOff taken old new (content d size blocks) → taken ≡ bytes_eq (content on.0 size blocks) (content on.1 size others)
 files_read taken on d e size blocks others old new is complete second begins takes =
     subst (λ (p : Disk × Disk). taken ≡ bytes_eq (content p.0 size blocks) (content p.1 size others)) is
     (chains_read d e size blocks others old new taken
-    (subst (λ (p : Disk × Disk). IsComplete p.0 (Chain blocks (blank size))) (sym is) complete)
-    (subst (λ (p : Disk × Disk). IsComplete p.1 (Chain others (blank size))) (sym is) second) begins takes)
+    (subst (λ (p : Disk × Disk). IsReadable p.0 (Chain blocks (blank size))) (sym is) complete)
+    (subst (λ (p : Disk × Disk). IsReadable p.1 (Chain others (blank size))) (sym is) second) begins takes)

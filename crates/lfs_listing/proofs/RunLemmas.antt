@@ -8,9 +8,9 @@ use Rattle.std.proofs.lemmas.Bool.Decides.{nat_tests}
 use Rattle.std.proofs.lemmas.Option.{slice_get-get_or, slice_get_past}
 use Rattle.std.proofs.lemmas.List.{drop_all}
 use Rattle.lfs_json.specs.declared.form.Form.{Form}
-use Rattle.lfs_listing.specs.BlockMap.{Run, put_before, runs_from}
+use Rattle.lfs_listing.specs.BlockMap.{BlockRun, put_before, runs_from}
 use Rattle.lfs_listing.specs.Using.{part_line, run_line}
-use Rattle.lfs_listing.specs.Runs.{goes_on}
+use Rattle.lfs_listing.specs.Runs.{run_goes_on}
 use Rattle.lfs_listing.proofs.BufferLemmas.{IsUnderWay, more_waits}
 
 same_number : (t : Bool) (n m : ℕ) → nat_eq n m ≡ t → t ≡ true → n ≡ m
@@ -28,36 +28,36 @@ user_itself None = refl
 user_itself (Some n) = grind (arith, nat_tests)
 
 -- a run of blocks with this user, from the first to the last
-abbrev pub run_of : ℕ → ℕ → Option ℕ → Run
+abbrev pub run_of : ℕ → ℕ → Option ℕ → BlockRun
 run_of first last u = record { first = first; last = last; user = u }
 
 -- the first run is of the first user
-record BeginsWith (u : Option ℕ) (runs : List Run) : Type 0 where
-  run : Run
-  later : List Run
+record BeginsWith (u : Option ℕ) (runs : List BlockRun) : Type 0 where
+  run : BlockRun
+  later : List BlockRun
   are : runs ≡ run ∷ later
   user : run.user ≡ u
 
-begins_by : (t : Bool) (b : ℕ) (u : Option ℕ) (run : Run) (runs : List Run)
+begins_by : (t : Bool) (b : ℕ) (u : Option ℕ) (run : BlockRun) (runs : List BlockRun)
     → BeginsWith u (cond t (run_of b run.last u ∷ runs) (run_of b b u ∷ run ∷ runs))
 begins_by true b u run runs = record { run = run_of b run.last u; later = runs; are = refl; user = refl }
 begins_by false b u run runs = record { run = run_of b b u; later = run ∷ runs; are = refl; user = refl }
 
-begins_put : (b : ℕ) (u : Option ℕ) (runs : List Run) → BeginsWith u (put_before b u runs)
+begins_put : (b : ℕ) (u : Option ℕ) (runs : List BlockRun) → BeginsWith u (put_before b u runs)
 begins_put b u [] = record { run = run_of b b u; later = []; are = refl; user = refl }
 begins_put b u (run ∷ runs) = begins_by (option_eq nat_eq run.user u) b u run runs
 
 -- a run that another user's follows
-ends_put : (b : ℕ) (u w : Option ℕ) (runs : List Run) → BeginsWith w runs → option_eq nat_eq w u ≡ false
+ends_put : (b : ℕ) (u w : Option ℕ) (runs : List BlockRun) → BeginsWith w runs → option_eq nat_eq w u ≡ false
     → put_before b u runs ≡ run_of b b u ∷ runs
 ends_put b u w runs h other =
     let test : option_eq nat_eq h.run.user u ≡ false = ap (λ (x : Option ℕ). option_eq nat_eq x u) h.user ∙ other in
     ap (put_before b u) h.are
     ∙ ap (λ (t : Bool). cond t (run_of b h.run.last u ∷ h.later) (run_of b b u ∷ h.run ∷ h.later)) test
-    ∙ ap (λ (rs : List Run). run_of b b u ∷ rs) (sym h.are)
+    ∙ ap (λ (rs : List BlockRun). run_of b b u ∷ rs) (sym h.are)
 
 -- a run that its own user's follows
-longer_put : (b last : ℕ) (u : Option ℕ) (runs : List Run) → put_before b u (run_of (b + 1) last u ∷ runs) ≡ run_of b last u ∷ runs
+longer_put : (b last : ℕ) (u : Option ℕ) (runs : List BlockRun) → put_before b u (run_of (b + 1) last u ∷ runs) ≡ run_of b last u ∷ runs
 longer_put b last u runs =
     ap (λ (t : Bool). cond t (run_of b last u ∷ runs) (run_of b b u ∷ run_of (b + 1) last u ∷ runs)) (user_itself u)
 
@@ -80,19 +80,19 @@ at_drop [] (suc b) = refl
 at_drop (u ∷ us) zero = refl
 at_drop (u ∷ us) (suc b) = at_drop us b
 
-first_of_both : (x y : Run) (xs ys : List Run) (u : Option ℕ) → x ∷ xs ≡ y ∷ ys → x.user ≡ u → y.user ≡ u
-first_of_both x y xs ys u same is = let equal : x ≡ y = cc in ap (λ (r : Run). r.user) (sym equal) ∙ is
+first_of_both : (x y : BlockRun) (xs ys : List BlockRun) (u : Option ℕ) → x ∷ xs ≡ y ∷ ys → x.user ≡ u → y.user ≡ u
+first_of_both x y xs ys u same is = let equal : x ≡ y = cc in ap (λ (r : BlockRun). r.user) (sym equal) ∙ is
 
-head_user : (runs later : List Run) (run : Run) (u : Option ℕ) → BeginsWith u runs → runs ≡ run ∷ later → run.user ≡ u
+head_user : (runs later : List BlockRun) (run : BlockRun) (u : Option ℕ) → BeginsWith u runs → runs ≡ run ∷ later → run.user ≡ u
 head_user runs later run u h is = first_of_both h.run run h.later later u (sym h.are ∙ is) h.user
 
 -- a run of so many blocks and one
 run_ends : (n b : ℕ) (us : List (Option ℕ)) → b + n < length us
-    → ((k : ℕ) → b ≤ k → k < b + n → goes_on us k ≡ true) → goes_on us (b + n) ≡ false
+    → ((k : ℕ) → b ≤ k → k < b + n → run_goes_on us k ≡ true) → run_goes_on us (b + n) ≡ false
     → runs_from b (drop b us) ≡ run_of b (b + n) (get_or us (b + n) None) ∷ runs_from (b + n + 1) (drop (b + n + 1) us)
 run_ends zero b us within on ends =
     let here : b + 0 ≡ b = omega arith in
-    let stops : goes_on us b ≡ false = ap (goes_on us) (sym here) ∙ ends in
+    let stops : run_goes_on us b ≡ false = ap (run_goes_on us) (sym here) ∙ ends in
     let u : Option ℕ = get_or us b None in
     let rest : List (Option ℕ) = drop (b + 1) us in
     let test : option_map_or (λ (next : Option ℕ). option_eq nat_eq next u) (slice_get rest 0) false ≡ false =
@@ -105,7 +105,7 @@ run_ends (suc n) b us within on ends =
     let next : Option ℕ = get_or us (b + 1) None in
     let last : Option ℕ = get_or us (b + suc n) None in
     let more : runs_from (b + 1) (drop (b + 1) us) ≡ run_of (b + 1) (b + suc n) last ∷ runs_from (b + suc n + 1) (drop (b + suc n + 1) us) =
-    run_ends n (b + 1) us (omega arith) (λ k from to. on k (omega arith) (omega arith)) (ap (goes_on us) there ∙ ends)
+    run_ends n (b + 1) us (omega arith) (λ k from to. on k (omega arith) (omega arith)) (ap (run_goes_on us) there ∙ ends)
     ∙ ap (λ (i : ℕ). run_of (b + 1) i (get_or us i None) ∷ runs_from (i + 1) (drop (i + 1) us)) there in
     let at : slice_get us (b + 1) ≡ Some next = slice_get-get_or us (b + 1) None (omega arith) in
     let test : option_eq nat_eq next u ≡ true =
@@ -126,14 +126,14 @@ run_ends (suc n) b us within on ends =
 -- a run that ends at a block waits
 pub run_waits : (form : Form) (old new : Option (List ℕ)) (waits longer complete : List ℕ) (words : Option ℕ → List ℕ) (us : List (Option ℕ)) (first block : ℕ)
     (end : List ℕ) → IsUnderWay old new waits (flat_map (run_line form words) (runs_from first (drop first us))) complete
-    → first ≤ block → block < length us → ((k : ℕ) → first ≤ k → k < block → goes_on us k ≡ true) → goes_on us block ≡ false
+    → first ≤ block → block < length us → ((k : ℕ) → first ≤ k → k < block → run_goes_on us k ≡ true) → run_goes_on us block ≡ false
     → end ≡ words (get_or us block None) → longer ≡ waits ++ (part_line form first block end)
     → IsUnderWay old new longer (flat_map (run_line form words) (runs_from (block + 1) (drop (block + 1) us))) complete
 run_waits form old new waits longer complete words us first block end h before within on ends word is =
     let n : ℕ = block - first in
     let there : first + n ≡ block = omega arith in
     let run : runs_from first (drop first us) ≡ run_of first block (get_or us block None) ∷ runs_from (block + 1) (drop (block + 1) us) =
-    run_ends n first us (omega arith) (λ k from to. on k from (omega arith)) (ap (goes_on us) there ∙ ends)
+    run_ends n first us (omega arith) (λ k from to. on k from (omega arith)) (ap (run_goes_on us) there ∙ ends)
     ∙ ap (λ (i : ℕ). run_of first i (get_or us i None) ∷ runs_from (i + 1) (drop (i + 1) us)) there in
     more_waits old new waits (part_line form first block end) (flat_map (run_line form words) (runs_from (block + 1) (drop (block + 1) us))) longer complete
     (subst (λ (rest : List ℕ). IsUnderWay old new waits rest complete)
@@ -149,20 +149,20 @@ runs_done form old new waits complete words us first over h =
     (ap (λ (xs : List (Option ℕ)). flat_map (run_line form words) (runs_from first xs)) (drop_all first us over)) h
 
 -- a block is the last one whose run goes on
-pub goes_within : (us : List (Option ℕ)) (block : ℕ) → goes_on us block ≡ true → block + 1 < length us
+pub goes_within : (us : List (Option ℕ)) (block : ℕ) → run_goes_on us block ≡ true → block + 1 < length us
 goes_within us block on = elim (cases_lt (block + 1) (length us)) [
   | inl within ↦ within
   | inr past ↦
-      let none : goes_on us block ≡ false =
+      let none : run_goes_on us block ≡ false =
       ap (λ (o : Option (Option ℕ)). option_map_or (λ (next : Option ℕ). option_eq nat_eq next (get_or us block None)) o false)
       (slice_get_past us (block + 1) past) in
       absurd (let bad : false ≡ true = sym none ∙ on in cc)
 ]
 
 -- a run that goes on at one more block
-pub on_more : (us : List (Option ℕ)) (first block : ℕ) → ((k : ℕ) → first ≤ k → k < block → goes_on us k ≡ true) → goes_on us block ≡ true
-    → (k : ℕ) → first ≤ k → k < block + 1 → goes_on us k ≡ true
+pub on_more : (us : List (Option ℕ)) (first block : ℕ) → ((k : ℕ) → first ≤ k → k < block → run_goes_on us k ≡ true) → run_goes_on us block ≡ true
+    → (k : ℕ) → first ≤ k → k < block + 1 → run_goes_on us k ≡ true
 on_more us first block on here k from to = elim (cases_lt k block) [
   | inl before ↦ on k from before
-  | inr past ↦ let is : block ≡ k = omega arith in ap (goes_on us) (sym is) ∙ here
+  | inr past ↦ let is : block ≡ k = omega arith in ap (run_goes_on us) (sym is) ∙ here
 ]

@@ -12,7 +12,7 @@ use Rattle.lfs_fs.specs.Row.{PathsAreOrdered, Row, path_precedes}
 use Rattle.lfs_fs.specs.RowShown.{shown_node}
 use Rattle.lfs_json.specs.declared.form.Form.{Form}
 use Rattle.lfs_json.specs.declared.form.Form.TheVariants.{Text, Json}
-use Rattle.lfs_listing.specs.Difference.{added, are_alike, changed, difference, difference_at, removed, rewritten, shows_same}
+use Rattle.lfs_listing.specs.Difference.{added, are_alike, changed_text, difference, difference_at, removed, rewritten, shows_same}
 use Rattle.lfs_json.specs.Line.{line_of, spelling}
 use Rattle.lfs_json.specs.Object.{Member, object_of}
 use Rattle.lfs_json.specs.Rows.{change_member, entry_members, row_members}
@@ -103,7 +103,7 @@ same_path order p q =
 -- what differs at the first rows, by which path comes first
 first_by : PathsAreOrdered → (form : Form) (d e : Disk) (a b : Row) (after before : Bool) (later behind tail : List ℕ)
     → path_precedes b.path a.path ≡ after → path_precedes a.path b.path ≡ before
-    → (if after then added form b ++ later else (if before then removed form a ++ behind else changed form d a e b ++ tail)) ≡ []
+    → (if after then added form b ++ later else (if before then removed form a ++ behind else changed_text form d a e b ++ tail)) ≡ []
     → IsSameRow d e a b × (tail ≡ [])
 first_by order form d e a b true before later behind tail second first none = absurd (added_stands form b later none)
 first_by order form d e a b false true later behind tail second first none = absurd (removed_stands form a behind none)
@@ -111,9 +111,9 @@ first_by order form d e a b false false later behind tail second first none = (
   record {
     path = same_path order a.path b.path first second;
     shown = shown_by form d e a b (shows_same d a.entry e b.entry) (are_alike a.entry b.entry) (same_node_decides (shown_node d a.entry) (shown_node e b.entry)).0
-        (first_none (changed form d a e b) tail none);
+        (first_none (changed_text form d a e b) tail none);
   },
-  second_none (changed form d a e b) tail none,
+  second_none (changed_text form d a e b) tail none,
 )
 
 pub none_differ_same : PathsAreOrdered → (form : Form) (d e : Disk) (left right : List Row) → difference form d left e right ≡ [] → AreSameRows d left e right

@@ -26,7 +26,7 @@ use Rattle.lfs_fs.proofs.OrderedEndLemmas.{last_name}
 use Rattle.lfs_fs.proofs.OutlinedLemmas.{outlined_uses}
 use Rattle.lfs_fs.proofs.PairLemmas.{same_pair-is, same_pair-refl}
 use Rattle.lfs_fs.specs.SoundOutlines.{OutlinesAreSound}
-use Rattle.lfs_listing.specs.BlockMap.{body_blocks, directory_blocks, has_block, part_blocks, user}
+use Rattle.lfs_listing.specs.BlockMap.{body_blocks, blocks_of_directory, has_block, blocks_of_part, user}
 use Rattle.lfs_listing.specs.BlockUses.{UntakenAreFree, UsersAreUses}
 use Rattle.lfs_listing.proofs.BlockMapLemmas.{user_found}
 use Rattle.lfs_listing.proofs.DirectoryLemmas.{fails, same_at}
@@ -64,11 +64,11 @@ sum_some f (x ∷ xs) some' = elim (cases_lt 0 (f x)) [
 ]
 
 -- the blocks of parts
-pair_times : (b : ℕ) (ps : List Part) → times b (flat_map part_blocks ps) ≡ sum_by (pair_uses b) ps
+pair_times : (b : ℕ) (ps : List Part) → times b (flat_map blocks_of_part ps) ≡ sum_by (pair_uses b) ps
 pair_times b [] = refl
 pair_times b (p ∷ ps) = omega (
   arith,
-  sum_by-append (λ (y : ℕ). cond {A = ℕ} (y == b) 1 0) (part_blocks p) (flat_map part_blocks ps),
+  sum_by-append (λ (y : ℕ). cond {A = ℕ} (y == b) 1 0) (blocks_of_part p) (flat_map blocks_of_part ps),
   pair_times b ps,
   sum_by-cons (pair_uses b) p ps,
 )
@@ -113,12 +113,12 @@ by_pair : (v : Volume) → IsSound v → (rows : List Row) → AreRows (entry_at
     → Reached v (key d) → 1 ≤ sum_by (pair_uses b) (parts d) → HasRow v rows b
 by_pair v sound rows are b d there (p, e, at, leads) some' =
     let body = body_of e.body (key d) leads in
-    let blocks : body_blocks v.directories e.body ≡ flat_map part_blocks (parts d) =
-    ap (body_blocks v.directories) body.1 ∙ ap (λ (k : Pair). directory_blocks (find (begins_at k) v.directories)) body.2
-    ∙ ap directory_blocks (finds_itself v sound d there) in (
+    let blocks : body_blocks v.directories e.body ≡ flat_map blocks_of_part (parts d) =
+    ap (body_blocks v.directories) body.1 ∙ ap (λ (k : Pair). blocks_of_directory (find (begins_at k) v.directories)) body.2
+    ∙ ap blocks_of_directory (finds_itself v sound d there) in (
       record { path = p; entry = e },
       are.complete p e at,
-      ap (list_any (λ x. x == b)) blocks ∙ times_any b (flat_map part_blocks (parts d)) (omega (arith, some', pair_times b (parts d))),
+      ap (list_any (λ x. x == b)) blocks ∙ times_any b (flat_map blocks_of_part (parts d)) (omega (arith, some', pair_times b (parts d))),
     )
 
 by_entry : (v : Volume) → IsSound v → (rows : List Row) → AreRows (entry_at v) rows → (b : ℕ) (d : Directory) → Contains v.directories d
@@ -145,11 +145,11 @@ directory_le : (v : Volume) (b : ℕ) (d : Directory) → Contains v.directories
 directory_le v b d there = element_le (directory_uses b) v.directories d there
 
 at_directory : (v : Volume) (b : ℕ) (pair : Pair) (o : Option Directory) → find (begins_at (unordered pair)) v.directories ≡ o
-    → list_any (λ x. x == b) (directory_blocks o) ≡ true → 1 ≤ uses b v
+    → list_any (λ x. x == b) (blocks_of_directory o) ≡ true → 1 ≤ uses b v
 at_directory v b pair None is has = absurd (let bad : false ≡ true = has in cc)
 at_directory v b pair (Some d) is has =
     let here = found (begins_at (unordered pair)) v.directories d is in
-    omega (arith, any_times b (flat_map part_blocks (parts d)) has, pair_times b (parts d), directory_le v b d here.0)
+    omega (arith, any_times b (flat_map blocks_of_part (parts d)) has, pair_times b (parts d), directory_le v b d here.0)
 
 at_chain : (v : Volume) (b : ℕ) (path : Path) (e : Entry) (blocks bytes : List ℕ) → e.body ≡ Chain blocks bytes → entry_at v path ≡ Some e
     → 1 ≤ times b blocks → 1 ≤ uses b v

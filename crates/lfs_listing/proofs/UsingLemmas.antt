@@ -13,7 +13,7 @@ use Rattle.std.proofs.lemmas.List.FromFn.{get_or-map-range_with_len, length-map-
 use Rattle.lfs_fs.specs.Directory.{Directory, Part}
 use Rattle.lfs_fs.specs.Row.{Row}
 use Rattle.lfs_fs.specs.Volume.{Volume}
-use Rattle.lfs_listing.specs.BlockMap.{body_blocks, has_block, part_blocks, user, block_users}
+use Rattle.lfs_listing.specs.BlockMap.{body_blocks, has_block, blocks_of_part, user, block_users}
 use Rattle.lfs_listing.specs.Using.{give, given_body, given_rows}
 
 -- ---- a block
@@ -81,15 +81,15 @@ fold_at n us (x ∷ xs) b within =
 
 -- the blocks of one more part
 pub parts_more : (n : ℕ) (old mid new : List (Option ℕ)) (ps : List Part) (i : ℕ) (p : Part) → i < length ps → p ≡ get_or ps i p
-    → mid ≡ fold (give n) old (flat_map part_blocks (take i ps)) → new ≡ fold (give n) mid (part_blocks p)
-    → new ≡ fold (give n) old (flat_map part_blocks (take (i + 1) ps))
+    → mid ≡ fold (give n) old (flat_map blocks_of_part (take i ps)) → new ≡ fold (give n) mid (blocks_of_part p)
+    → new ≡ fold (give n) old (flat_map blocks_of_part (take (i + 1) ps))
 parts_more n old mid new ps i p within at is more =
     let complete : take (i + 1) ps ≡ take i ps ++ p ∷ [] = take_more ps i p within ∙ ap (λ (q : Part). take i ps ++ q ∷ []) (sym at) in
-    let blocks : flat_map part_blocks (take (i + 1) ps) ≡ flat_map part_blocks (take i ps) ++ part_blocks p =
-    ap (flat_map part_blocks) complete ∙ flat_map-append part_blocks (take i ps) (p ∷ [])
-    ∙ ap (λ (xs : List ℕ). flat_map part_blocks (take i ps) ++ xs) (append-nil (part_blocks p)) in
-    more ∙ ap (λ (us : List (Option ℕ)). fold (give n) us (part_blocks p)) is
-    ∙ sym (fold-append (give n) old (flat_map part_blocks (take i ps)) (part_blocks p))
+    let blocks : flat_map blocks_of_part (take (i + 1) ps) ≡ flat_map blocks_of_part (take i ps) ++ blocks_of_part p =
+    ap (flat_map blocks_of_part) complete ∙ flat_map-append blocks_of_part (take i ps) (p ∷ [])
+    ∙ ap (λ (xs : List ℕ). flat_map blocks_of_part (take i ps) ++ xs) (append-nil (blocks_of_part p)) in
+    more ∙ ap (λ (us : List (Option ℕ)). fold (give n) us (blocks_of_part p)) is
+    ∙ sym (fold-append (give n) old (flat_map blocks_of_part (take i ps)) (blocks_of_part p))
     ∙ ap (fold (give n) old) (sym blocks)
 
 -- ---- rows

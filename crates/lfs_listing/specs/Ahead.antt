@@ -6,7 +6,7 @@ use Rattle.lfs_fs.specs.Path.{Path}
 use Rattle.lfs_fs.specs.Row.{Row}
 use Rattle.lfs_fs.specs.Listed.{Listed, rows_after}
 use Rattle.lfs_json.specs.declared.form.Form.{Form}
-use Rattle.lfs_listing.specs.Difference.{changed, marked, rewritten}
+use Rattle.lfs_listing.specs.Difference.{changed_text, marked_text, rewritten}
 use Rattle.lfs_listing.specs.declared.mark.Mark.{Mark}
 
 -- the row at hand, which is at this path, and those that are listed behind it; nothing where none is at hand
@@ -15,14 +15,14 @@ rows_ahead path None later = []
 rows_ahead path (Some row) later = record { path = path; entry = row.entry } ∷ rows_after path later
 
 -- the entry of the first row
-abbrev pub first_entry : List Row → Option Entry
-first_entry [] = None
-first_entry (r ∷ rs) = Some r.entry
+abbrev pub first_row_entry : List Row → Option Entry
+first_row_entry [] = None
+first_row_entry (r ∷ rs) = Some r.entry
 
 -- what is said of the first row, which only one image has
 abbrev pub first_marked : Form → Mark → List Row → List ℕ
 first_marked form mark [] = []
-first_marked form mark (r ∷ rs) = marked form mark r
+first_marked form mark (r ∷ rs) = marked_text form mark r
 
 -- what is said of it where only its contents differ
 abbrev pub first_rewritten : Form → List Row → List ℕ
@@ -33,4 +33,4 @@ first_rewritten form (r ∷ rs) = rewritten form r
 abbrev pub first_changed : Form → Disk → List Row → Disk → List Row → List ℕ
 first_changed form d [] e bs = []
 first_changed form d (a ∷ left) e [] = []
-first_changed form d (a ∷ left) e (b ∷ bs) = changed form d a e b
+first_changed form d (a ∷ left) e (b ∷ bs) = changed_text form d a e b

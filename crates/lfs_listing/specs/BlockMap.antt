@@ -17,19 +17,19 @@ use Rattle.lfs_listing.specs.Listing.{shown_byte}
 use Rattle.lfs_json.specs.Blocks.{json_of_run}
 
 -- the blocks of a part: those of its pair
-abbrev pub part_blocks : Part → List ℕ
-part_blocks p = p.pair.0 ∷ p.pair.1 ∷ []
+abbrev pub blocks_of_part : Part → List ℕ
+blocks_of_part p = p.pair.0 ∷ p.pair.1 ∷ []
 
 -- the blocks of a directory: those of its parts
-abbrev pub directory_blocks : Option Directory → List ℕ
-directory_blocks None = []
-directory_blocks (Some d) = flat_map part_blocks (parts d)
+abbrev pub blocks_of_directory : Option Directory → List ℕ
+blocks_of_directory None = []
+blocks_of_directory (Some d) = flat_map blocks_of_part (parts d)
 
 -- the blocks of a body: those of its directory, or of its file's chain
 abbrev pub body_blocks : List Directory → Body → List ℕ
 body_blocks ds (Inline bytes) = []
 body_blocks ds (Chain blocks bytes) = blocks
-body_blocks ds (Directory_at pair) = directory_blocks (find (begins_at (unordered pair)) ds)
+body_blocks ds (Directory_at pair) = blocks_of_directory (find (begins_at (unordered pair)) ds)
 
 -- whether a row has a block
 abbrev pub has_block : List Directory → ℕ → Row → Bool
@@ -44,20 +44,20 @@ abbrev pub block_users : Volume → List Row → List (Option ℕ)
 block_users v rows = map (user v rows) (range_with_len 0 v.count)
 
 -- blocks of one user, from the first to the last one
-pub record Run : Type 0 where
+pub record BlockRun : Type 0 where
   pub first : ℕ
   pub last : ℕ
   pub user : Option ℕ
 
 -- a block put in front of runs, the first of which it lengthens where that is its user's
-abbrev pub put_before : ℕ → Option ℕ → List Run → List Run
+abbrev pub put_before : ℕ → Option ℕ → List BlockRun → List BlockRun
 put_before b u [] = record { first = b; last = b; user = u } ∷ []
 put_before b u (run ∷ runs) =
     if option_eq nat_eq run.user u then record { first = b; last = run.last; user = u } ∷ runs
     else record { first = b; last = b; user = u } ∷ run ∷ runs
 
 -- the runs of blocks with these users, of which the first is block b
-abbrev pub runs_from : ℕ → List (Option ℕ) → List Run
+abbrev pub runs_from : ℕ → List (Option ℕ) → List BlockRun
 runs_from b [] = []
 runs_from b (u ∷ us) = put_before b u (runs_from (b + 1) us)
 
@@ -75,7 +75,7 @@ abbrev pub user_row : List Row → Option ℕ → Option Row
 user_row rows u = option_and_then (slice_get rows) u
 
 -- the line of a run, or its object as one line
-abbrev pub block_line : Form → List Row → Run → List ℕ
+abbrev pub block_line : Form → List Row → BlockRun → List ℕ
 block_line Text rows run = run_word run.first run.last ++ user_words shown_byte (user_row rows run.user)
 block_line Json rows run = line_of (json_of_run (user_row rows run.user) run.first run.last)
 

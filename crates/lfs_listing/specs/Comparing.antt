@@ -12,16 +12,16 @@ pub record Leads (p : ChangeSet) (d e : Disk) : Type 0 where
   pub is : e ≡ applied p d
 
 -- a body can be read: a chain's blocks are the disk's, no more than it has, and hold as many bytes as it says
-abbrev pub IsComplete : Disk → Body → Type 0
-IsComplete d (Inline bytes) = Unit {0}
-IsComplete d (Chain blocks zeros) =
+abbrev pub IsReadable : Disk → Body → Type 0
+IsReadable d (Inline bytes) = Unit {0}
+IsReadable d (Chain blocks zeros) =
     All (λ b. b < d.count) blocks × (length blocks ≤ d.count) × (length (content d (length zeros) blocks) ≡ length zeros)
-IsComplete d (Directory_at pair) = Unit {0}
+IsReadable d (Directory_at pair) = Unit {0}
 
 -- each row's body can be read
 abbrev pub AreComplete : Disk → List Row → Type 0
 AreComplete d [] = Unit {0}
-AreComplete d (r ∷ rs) = IsComplete d r.entry.body × AreComplete d rs
+AreComplete d (r ∷ rs) = IsReadable d r.entry.body × AreComplete d rs
 
 -- a file's bytes; a directory has none
 abbrev pub contents_of : Disk → Body → Option (List ℕ)

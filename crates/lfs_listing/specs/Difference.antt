@@ -55,17 +55,17 @@ mark_word Removed = codes "removed"
 mark_word Added = codes "added"
 
 -- a row that only one image has: its lines, or its object as one line
-abbrev pub marked : Form → Mark → Row → List ℕ
-marked Text mark r = marked_lines (mark_text mark) r
-marked Json mark r = line_of (json_of_change (mark_word mark) r.path r.entry)
+abbrev pub marked_text : Form → Mark → Row → List ℕ
+marked_text Text mark r = marked_lines (mark_text mark) r
+marked_text Json mark r = line_of (json_of_change (mark_word mark) r.path r.entry)
 
 -- of a row that only the first has
 abbrev pub removed : Form → Row → List ℕ
-removed form r = marked form Removed r
+removed form r = marked_text form Removed r
 
 -- of a row that only the second has
 abbrev pub added : Form → Row → List ℕ
-added form r = marked form Added r
+added form r = marked_text form Added r
 
 -- the line of a row with a mark in front, without its attributes
 abbrev pub marked_line : List ℕ → Row → List ℕ
@@ -81,8 +81,8 @@ abbrev pub are_alike : Entry → Entry → Bool
 are_alike a b = not (leads a) && (not (leads b) && same_attributes a.attributes b.attributes)
 
 -- what differs at a path that both have: nothing, or of files their contents alone, which the second's line says
-abbrev pub changed : Form → Disk → Row → Disk → Row → List ℕ
-changed form d a e b =
+abbrev pub changed_text : Form → Disk → Row → Disk → Row → List ℕ
+changed_text form d a e b =
     if shows_same d a.entry e b.entry then []
     else (if are_alike a.entry b.entry then rewritten form b else removed form a ++ added form b)
 
@@ -98,7 +98,7 @@ abbrev pub difference_at : Form → Disk → Disk → Row → (List Row → List
 difference_at form d e a rest [] = removed form a ++ rest []
 difference_at form d e a rest (b ∷ bs) =
     if path_precedes b.path a.path then added form b ++ difference_at form d e a rest bs
-    else (if path_precedes a.path b.path then removed form a ++ rest (b ∷ bs) else changed form d a e b ++ rest bs)
+    else (if path_precedes a.path b.path then removed form a ++ rest (b ∷ bs) else changed_text form d a e b ++ rest bs)
 
 -- what differs between the rows of two disks: nothing where both show the same at the same paths
 abbrev pub difference : Form → Disk → List Row → Disk → List Row → List ℕ

@@ -17,10 +17,10 @@ abbrev pub AreNumbers : List Directory → List (Option ℕ) → Type 0
 AreNumbers ds numbers = (b : ℕ) → b < length numbers → IsNumberAt ds b (slice_index_or numbers b None)
 
 -- the directory that the numbers give for a pair
-abbrev pub numbered : List Directory → List (Option ℕ) → Pair → Option Directory
-numbered ds numbers k =
+abbrev pub directory_numbered : List Directory → List (Option ℕ) → Pair → Option Directory
+directory_numbered ds numbers k =
     option_and_then (λ d. if begins_at k d then Some d else None) (option_and_then (slice_get ds) (option_flatten (slice_get numbers k.0)))
 
 -- it is the one that begins there
 abbrev pub FindDirectories : List Directory → List (Option ℕ) → Type 0
-FindDirectories ds numbers = (k : Pair) → numbered ds numbers k ≡ find (begins_at k) ds
+FindDirectories ds numbers = (k : Pair) → directory_numbered ds numbers k ≡ find (begins_at k) ds

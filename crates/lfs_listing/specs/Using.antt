@@ -5,7 +5,7 @@ use Rattle.lfs_fs.specs.Directory.{Directory}
 use Rattle.lfs_fs.specs.Row.{Row}
 use Rattle.lfs_json.specs.declared.form.Form.{Form}
 use Rattle.lfs_json.specs.declared.form.Form.TheVariants.{Text, Json}
-use Rattle.lfs_listing.specs.BlockMap.{Run, body_blocks, run_word, user_words}
+use Rattle.lfs_listing.specs.BlockMap.{BlockRun, body_blocks, run_word, user_words}
 use Rattle.lfs_listing.specs.Listing.{shown_byte}
 use Rattle.lfs_json.specs.Blocks.{run_rest, user_front}
 
@@ -38,9 +38,9 @@ abbrev pub row_part : Form → Row → List ℕ
 row_part form r = if may_have_blocks r.entry.body then user_part form (Some r) else []
 
 -- that of a user, among those of rows
-abbrev pub part_of : Form → List (List ℕ) → Option ℕ → List ℕ
-part_of form parts None = user_part form None
-part_of form parts (Some i) = slice_index_or parts i []
+abbrev pub part_of_user : Form → List (List ℕ) → Option ℕ → List ℕ
+part_of_user form parts None = user_part form None
+part_of_user form parts (Some i) = slice_index_or parts i []
 
 -- the line of blocks with it
 abbrev pub part_line : Form → ℕ → ℕ → List ℕ → List ℕ
@@ -48,5 +48,5 @@ part_line Text first last part = run_word first last ++ part
 part_line Json first last part = part ++ run_rest first last
 
 -- that of a run
-abbrev pub run_line : Form → (Option ℕ → List ℕ) → Run → List ℕ
+abbrev pub run_line : Form → (Option ℕ → List ℕ) → BlockRun → List ℕ
 run_line form parts run = part_line form run.first run.last (parts run.user)

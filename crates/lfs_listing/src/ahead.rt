@@ -51,7 +51,7 @@ impl<'a> Ahead<'a> {
     ghost use Rattle.std.specs.Prelude.{◌≡◌, ◌++◌, ◌==◌, IfOk, OnOk, drop, false, length};
     ghost use Rattle.std.specs.Option.{option_map};
     ghost use Rattle.lfs_fs.specs.Listed.{rows_listed};
-    ghost use Rattle.lfs_listing.specs.Ahead.{first_entry, first_marked, first_rewritten};
+    ghost use Rattle.lfs_listing.specs.Ahead.{first_row_entry, first_marked, first_rewritten};
     ghost use Rattle.lfs_listing.specs.Order.{rows_order};
 
     /// All rows.
@@ -73,7 +73,7 @@ impl<'a> Ahead<'a> {
 
     /// The first one.
     pub(crate) fn first(&self) -> Option<&Row<'a>>
-        ensures { option_map (λ r. r.now.entry) result ≡ first_entry self.now }
+        ensures { option_map (λ r. r.now.entry) result ≡ first_row_entry self.now }
     {
         self.row.as_ref()
     }

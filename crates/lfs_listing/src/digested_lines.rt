@@ -3,7 +3,7 @@
 ghost use Rattle.std.specs.Prelude.{◌≡◌, ◌++◌, OnOk, map};
 ghost use Rattle.lfs_fs.specs.Listed.{path_after, row_after};
 ghost use Rattle.lfs_listing.specs.Below.{lines_at, names};
-ghost use Rattle.lfs_listing.specs.Comparing.{IsComplete};
+ghost use Rattle.lfs_listing.specs.Comparing.{IsReadable};
 ghost use Rattle.lfs_listing.specs.Digests.{digest_line, digested_as, digested_text, with_digest};
 
 use crate::below::is_below;
@@ -74,7 +74,7 @@ pub(crate) fn append_digested_row<'a, A: Blocks>(
     at: &[&[u8]],
     row: &Row<'a>,
 ) -> Result<(), AllocError>
-    requires { IsComplete (A.disk disk.now) row.now.entry.body }
+    requires { IsReadable (A.disk disk.now) row.now.entry.body }
     ensures lines { OnOk result (text.new.items ≡ text.old.items
         ++ lines_at (digested_text form (A.disk disk.now)) (names at.now) (row_after (map (λ n. n.now) path.old.items) row.now)) }
     ensures path { OnOk result (map (λ n. n.now) path.new.items

@@ -3,7 +3,7 @@
 ghost use Rattle.std.specs.Prelude.{◌≡◌, ◌<◌, ◌≤◌, All, length};
 ghost use Rattle.sha2.specs.Sha256.{sha256};
 ghost use Rattle.lfs_file.specs.Content.{content};
-ghost use Rattle.lfs_listing.specs.Comparing.{IsComplete};
+ghost use Rattle.lfs_listing.specs.Comparing.{IsReadable};
 ghost use Rattle.lfs_listing.specs.Digests.{digest_of};
 
 use lfs_block::Blocks;
@@ -29,7 +29,7 @@ fn digest_of_chain<A: Blocks>(disk: &A, blocks: &[u32], size: u32) -> [u8; DIGES
 
 /// The digest of what a row holds; a directory has none.
 pub(crate) fn digest_of<A: Blocks>(disk: &A, row: &Row<'_>) -> Option<[u8; DIGEST]>
-    requires { IsComplete (A.disk disk.now) row.now.entry.body }
+    requires { IsReadable (A.disk disk.now) row.now.entry.body }
     ensures { result ≡ digest_of (A.disk disk.now) row.now.entry.body }
 {
     match row.body {

@@ -35,7 +35,7 @@ impl<'a, A: Blocks, B: Blocks> Images<'a, A, B> {
     ghost use Rattle.lfs_fs.specs.Entry.{Chain};
     ghost use Rattle.lfs_fs.specs.Outlined.{blank};
     ghost use Rattle.lfs_fs.specs.RowHeld.{row_body_held};
-    ghost use Rattle.lfs_listing.specs.Comparing.{IsComplete, Leads, contents_of, same_contents};
+    ghost use Rattle.lfs_listing.specs.Comparing.{IsReadable, Leads, contents_of, same_contents};
     ghost use Rattle.lfs_listing.specs.Difference.{shows_same};
 
     /// Two images.
@@ -67,8 +67,8 @@ impl<'a, A: Blocks, B: Blocks> Images<'a, A, B> {
 
     /// Whether two files of `size` bytes have the same contents. They are read only where the blocks may hold others.
     fn have_same_contents(&self, blocks: &[u32], others: &[u32], size: u32) -> bool
-        requires first { IsComplete self.now.0 (Chain blocks.now (blank size)) }
-        requires second { IsComplete self.now.1 (Chain others.now (blank size)) }
+        requires first { IsReadable self.now.0 (Chain blocks.now (blank size)) }
+        requires second { IsReadable self.now.1 (Chain others.now (blank size)) }
         ensures { result ≡ bytes_eq (content self.now.0 size blocks.now) (content self.now.1 size others.now) }
     {
         if self.keeps(blocks, others) {
@@ -80,8 +80,8 @@ impl<'a, A: Blocks, B: Blocks> Images<'a, A, B> {
 
     /// Whether two bodies are files with the same contents, or directories.
     fn have_same_bodies(&self, body: &RowBody<'_>, other: &RowBody<'_>) -> bool
-        requires first { IsComplete self.now.0 (row_body_held body.now) }
-        requires second { IsComplete self.now.1 (row_body_held other.now) }
+        requires first { IsReadable self.now.0 (row_body_held body.now) }
+        requires second { IsReadable self.now.1 (row_body_held other.now) }
         ensures { result ≡ same_contents (contents_of self.now.0 (row_body_held body.now))
             (contents_of self.now.1 (row_body_held other.now)) }
     {
@@ -107,8 +107,8 @@ impl<'a, A: Blocks, B: Blocks> Images<'a, A, B> {
 
     /// Whether two rows, one of each image, show the same.
     pub(crate) fn show_same(&self, row: &Row<'_>, other: &Row<'_>) -> bool
-        requires first { IsComplete self.now.0 row.now.entry.body }
-        requires second { IsComplete self.now.1 other.now.entry.body }
+        requires first { IsReadable self.now.0 row.now.entry.body }
+        requires second { IsReadable self.now.1 other.now.entry.body }
         ensures { result ≡ shows_same self.now.0 row.now.entry self.now.1 other.now.entry }
     {
         self.have_same_bodies(&row.body, &other.body)

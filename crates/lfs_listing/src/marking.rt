@@ -1,7 +1,7 @@
 //! What is said of rows that differ: lines with a mark in front, or objects.
 
 ghost use Rattle.std.specs.Prelude.{◌≡◌, ◌++◌, OnOk, flat_map, map};
-ghost use Rattle.lfs_listing.specs.Difference.{marked, marked_line, marked_lines, rewritten};
+ghost use Rattle.lfs_listing.specs.Difference.{marked_text, marked_line, marked_lines, rewritten};
 ghost use Rattle.lfs_listing.specs.Listing.{attribute_line};
 
 use crate::attributes::append_attribute;
@@ -65,7 +65,7 @@ pub(crate) fn append_marked(
     row: &Row<'_>,
 ) -> Result<(), AllocError>
     ensures { OnOk result (text.new.items
-        ≡ text.old.items ++ marked form mark (record { path = map (λ n. n.now) path.now; entry = row.now.entry })) }
+        ≡ text.old.items ++ marked_text form mark (record { path = map (λ n. n.now) path.now; entry = row.now.entry })) }
 {
     match form {
         Form::Text => append_marked_lines(text, mark.text(), path, row),

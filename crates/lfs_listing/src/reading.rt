@@ -4,7 +4,7 @@ ghost use Rattle.std.specs.Prelude.{◌≡◌, ◌<◌, ◌≤◌, All, bytes_eq
 ghost use Rattle.lfs_file.specs.Content.{content};
 ghost use Rattle.lfs_fs.specs.Entry.{Chain};
 ghost use Rattle.lfs_fs.specs.Outlined.{blank};
-ghost use Rattle.lfs_listing.specs.Comparing.{IsComplete, TakesOff};
+ghost use Rattle.lfs_listing.specs.Comparing.{IsReadable, TakesOff};
 
 use crate::unread::Unread;
 use lfs_block::Blocks;
@@ -31,7 +31,7 @@ pub(crate) fn begins_with<A: Blocks, B: Blocks>(
 
 /// Whether a file of `size` bytes in these blocks has these contents: where their length is another one, nothing is read.
 pub fn has_contents<A: Blocks>(disk: &A, blocks: &[u32], size: u32, bytes: &[u8]) -> bool
-    requires { IsComplete (A.disk disk.now) (Chain blocks.now (blank size)) }
+    requires { IsReadable (A.disk disk.now) (Chain blocks.now (blank size)) }
     ensures { result ≡ bytes_eq (content (A.disk disk.now) size blocks.now) bytes.now }
 {
     if size as usize != bytes.len() {

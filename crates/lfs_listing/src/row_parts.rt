@@ -100,7 +100,7 @@ impl Model for RowParts {
 
 impl RowParts {
     ghost use Rattle.std.specs.Prelude.{◌≡◌, ◌<◌, ◌^◌, ◌++◌, [], ◌∷◌, IfOk, length, map};
-    ghost use Rattle.lfs_listing.specs.Using.{part_of, row_part};
+    ghost use Rattle.lfs_listing.specs.Using.{part_of_user, row_part};
 
     /// None.
     pub(crate) fn new(alloc: Global) -> RowParts
@@ -145,7 +145,7 @@ impl RowParts {
 
     /// That of a user: the row of this number, or free blocks.
     pub(crate) fn of_user(&self, form: Form, user: Option<usize>) -> &[u8]
-        ensures { result.now ≡ part_of form self.now user }
+        ensures { result.now ≡ part_of_user form self.now user }
     {
         let Some(number) = user else {
             return free_part(form);

@@ -3,9 +3,9 @@
 ghost use Rattle.std.specs.Prelude.{◌≡◌, ◌<◌, ◌+◌, ◌++◌, None, OnOk, decimal, false, flat_map, length, nat_eq, not, slice_index_or};
 ghost use Rattle.std.specs.Result.{result_err};
 ghost use Rattle.lfs_listing.specs.BlockMap.{run_word, runs_from};
-ghost use Rattle.lfs_listing.specs.Runs.{goes_on};
+ghost use Rattle.lfs_listing.specs.Runs.{run_goes_on};
 ghost use Rattle.lfs_listing.specs.Unsent.{SendsListing, blames_sink};
-ghost use Rattle.lfs_listing.specs.Using.{part_line, part_of, run_line};
+ghost use Rattle.lfs_listing.specs.Using.{part_line, part_of_user, run_line};
 
 use crate::buffer::{send_if_full, send_rest};
 use crate::row_parts::RowParts;
@@ -59,7 +59,7 @@ fn append_line(
 /// Whether the next block has the same user.
 fn goes_on(users: &[Option<usize>], block: usize) -> bool
     requires { block < length users.now }
-    ensures { result ≡ goes_on users.now block }
+    ensures { result ≡ run_goes_on users.now block }
 {
     match users.get(block + 1) {
         Some(next) => *next == users[block],
@@ -77,7 +77,7 @@ pub(crate) fn send_runs<S: Sink>(
 ) -> Result<(), Unsent>
     requires { S.failed out.old ≡ false }
     ensures sent { SendsListing (result_err result) (S.sent out.old) (S.sent out.new)
-        (flat_map (run_line form (part_of form parts.now)) (runs_from 0 users.now)) }
+        (flat_map (run_line form (part_of_user form parts.now)) (runs_from 0 users.now)) }
     ensures failed { S.failed out.new ≡ blames_sink (result_err result) }
     ensures kept { S.kept out.new ≡ S.kept out.old }
 {

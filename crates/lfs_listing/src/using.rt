@@ -1,7 +1,7 @@
 //! Which rows have blocks.
 
 ghost use Rattle.std.specs.Prelude.{◌≡◌, Some, flat_map, fold};
-ghost use Rattle.lfs_listing.specs.BlockMap.{directory_blocks, part_blocks};
+ghost use Rattle.lfs_listing.specs.BlockMap.{blocks_of_directory, blocks_of_part};
 ghost use Rattle.lfs_listing.specs.Using.{give, given_body};
 
 use crate::directory_numbers::NumberedDirectories;
@@ -28,7 +28,7 @@ fn give_each(users: &mut [Option<usize>], blocks: &[u32], number: usize)
 
 /// The same of the pair of a part.
 fn give_part(users: &mut [Option<usize>], part: &OutlinePart, number: usize)
-    ensures { users.new ≡ fold (give number) users.old (part_blocks part.now) }
+    ensures { users.new ≡ fold (give number) users.old (blocks_of_part part.now) }
 {
     let (first, second) = part.pair;
     give(users, first, number);
@@ -37,7 +37,7 @@ fn give_part(users: &mut [Option<usize>], part: &OutlinePart, number: usize)
 
 /// The same of the pairs of parts.
 fn give_parts(users: &mut [Option<usize>], parts: &[OutlinePart], number: usize)
-    ensures { users.new ≡ fold (give number) users.old (flat_map part_blocks parts.now) }
+    ensures { users.new ≡ fold (give number) users.old (flat_map blocks_of_part parts.now) }
 {
     'each: for part in parts {
         give_part(users, part, number);
@@ -46,7 +46,7 @@ fn give_parts(users: &mut [Option<usize>], parts: &[OutlinePart], number: usize)
 
 /// The same of the pairs of a directory.
 fn give_directory(users: &mut [Option<usize>], directory: &OutlineDirectory, number: usize)
-    ensures { users.new ≡ fold (give number) users.old (directory_blocks (Some directory.now)) }
+    ensures { users.new ≡ fold (give number) users.old (blocks_of_directory (Some directory.now)) }
 {
     give_part(users, &directory.parts.first, number);
     give_parts(users, &directory.parts.more, number);

@@ -20,7 +20,7 @@ use Rattle.lfs_fs.specs.Reading.{Reading}
 use Rattle.lfs_fs.specs.Used.{AddsBlocks, AreTaken, Marks, marked, unmarked}
 use Rattle.lfs_fs.proofs.ThreadReadLemmas.{marked_once, pair_within, pairs_more}
 use Rattle.lfs_lower.specs.OneSuperblock.{behind_superblock, is_fresh, lead, lead_by, pairs_along, superblock_pairs}
-use Rattle.lfs_lower.specs.Joining.{IsGathered, parts_held}
+use Rattle.lfs_lower.specs.Joining.{AreGathered, parts_held}
 use Rattle.lfs_lower.proofs.FreshPairs.{IsFresh, fresh_is, is_fresh_is}
 
 -- ---- what pairs hold
@@ -125,7 +125,7 @@ marked_by (Err fault) P is h = absurd (cc)
 
 -- nothing is gathered yet
 pub gathered_none : (r : Reading) (used : List Bool) (parts : List PairPart) → used ≡ replicate r.count false → parts ≡ []
-    → IsGathered r used parts (Some root)
+    → AreGathered r used parts (Some root)
 gathered_none r used parts marks none = record {
   before = [];
   n = r.count;
@@ -142,7 +142,7 @@ module _ (r : Reading) (used : List Bool) (parts : List PairPart) (p : Pair) whe
       → parts ++ parts_held r (pairs_along (lead r) r.count before n (Some p)) ≡ parts_held r (superblock_pairs r)
       → All (λ q. AllByRecursion IsComplete q.1.entries) parts
       → AddsBlocks used new (p.0 ∷ p.1 ∷ []) → r.part p ≡ Some s → AllByRecursion IsComplete s.entries
-      → IsGathered r new (parts ++ (p, s) ∷ []) (lead_by s.tail (behind_superblock s.entries))
+      → AreGathered r new (parts ++ (p, s) ∷ []) (lead_by s.tail (behind_superblock s.entries))
   held_more new s before zero len marks enough left complete adds read one = let fewer = adds.fewer in absurd (omega arith)
   held_more new s before (suc n) len marks enough left complete adds read one =
       let fresh = is_fresh_is r.count before p (fresh_pair r used new before p len marks adds) in
@@ -163,13 +163,13 @@ module _ (r : Reading) (used : List Bool) (parts : List PairPart) (p : Pair) whe
       }
 
   -- one part more
-  pub gathered_more : (new : List Bool) (s : StoredPart) → IsGathered r used parts (Some p) → AddsBlocks used new (p.0 ∷ p.1 ∷ [])
+  pub gathered_more : (new : List Bool) (s : StoredPart) → AreGathered r used parts (Some p) → AddsBlocks used new (p.0 ∷ p.1 ∷ [])
       → r.part p ≡ Some s → AllByRecursion IsComplete s.entries
-      → IsGathered r new (parts ++ (p, s) ∷ []) (lead_by s.tail (behind_superblock s.entries))
+      → AreGathered r new (parts ++ (p, s) ∷ []) (lead_by s.tail (behind_superblock s.entries))
   gathered_more new s h adds read one = held_more new s h.before h.n h.len h.marks h.enough h.left h.complete adds read one
 
   -- all parts are gathered where the pair can't be marked
-  pub gathered_taken : (fault : MountFault) → IsGathered r used parts (Some p) → AreTaken fault used (p.0 ∷ p.1 ∷ [])
+  pub gathered_taken : (fault : MountFault) → AreGathered r used parts (Some p) → AreTaken fault used (p.0 ∷ p.1 ∷ [])
       → parts ≡ parts_held r (superblock_pairs r)
   gathered_taken fault h taken =
       let stale : is_fresh r.count h.before p ≡ false = false_from_ne_true (is_fresh r.count h.before p)
@@ -177,12 +177,12 @@ module _ (r : Reading) (used : List Bool) (parts : List PairPart) (p : Pair) whe
       sym (append-nil parts) ∙ ap (λ (ps : List Pair). parts ++ parts_held r ps) (sym (along_stops (lead r) r.count h.before h.n p stale)) ∙ h.left
 
   -- or where it holds no part
-  pub gathered_unread : IsGathered r used parts (Some p) → r.part p ≡ None → parts ≡ parts_held r (superblock_pairs r)
+  pub gathered_unread : AreGathered r used parts (Some p) → r.part p ≡ None → parts ≡ parts_held r (superblock_pairs r)
   gathered_unread h read =
       sym (append-nil parts) ∙ ap (λ (ps : List PairPart). parts ++ ps) (sym (along_unread r r.count h.before h.n p read)) ∙ h.left
 
 -- or where none follows
-pub gathered_all : (r : Reading) (used : List Bool) (parts : List PairPart) → IsGathered r used parts None
+pub gathered_all : (r : Reading) (used : List Bool) (parts : List PairPart) → AreGathered r used parts None
     → parts ≡ parts_held r (superblock_pairs r)
 gathered_all r used parts h =
     sym (append-nil parts) ∙ ap (λ (ps : List Pair). parts ++ parts_held r ps) (sym (along_none (lead r) r.count h.before h.n)) ∙ h.left

@@ -1,4 +1,4 @@
--- An image whose superblocks are joined holds what is read in the other one with one superblock.
+-- An image whose superblocks are joined_of_superblocks holds what is read in the other one with one superblock.
 use Rattle.std.proofs.Common.{◌≡◌, inl, inr, ℕ, ◌+◌, ◌<◌, Bool, true, false, List, [], ◌∷◌, ◌++◌, Option, Some, None, refl, ap, sym, ◌∙◌}
 use Rattle.std.proofs.Common.{subst, arith, append-nil}
 use Rattle.std.specs.Prelude.{Contains, if◌then◌else◌, option_map, option_and_then, ◌&&◌, ◌||◌}
@@ -23,7 +23,7 @@ use Rattle.lfs_lower.specs.Anew.{IsSpelledAnew, ReadsBlocks}
 use Rattle.lfs_lower.specs.Joined.{IsJoinedImage, RelaidImagesHoldWhatIsRead}
 use Rattle.lfs_lower.specs.LaterReading.{later_reading_of}
 use Rattle.lfs_lower.specs.Laws.{LivesAreRead}
-use Rattle.lfs_lower.specs.OneSuperblock.{all_can, behind_superblock, can_join, entry_or, joined, last_from, last_superblock, led_by, one_superblock, part_as_one, part_joined, superblock_at, superblock_in, superblock_pairs}
+use Rattle.lfs_lower.specs.OneSuperblock.{all_can, behind_superblock, can_join, entry_or, joined_of_superblocks, last_from, last_superblock, led_by, one_superblock, part_as_one, part_joined, superblock_at, superblock_in, superblock_pairs}
 use Rattle.lfs_lower.proofs.HeldAnew.{LawsBelow, spelled_anew_hold}
 use Rattle.lfs_lower.proofs.LoweredHeld.{lowered_is_anew, reads_later}
 use Rattle.lfs_lower.proofs.LongestFronts.{AgreeAt, StepAlike, front_alike, longest_is, pairs_name_both}
@@ -76,13 +76,13 @@ module _ (r q : Reading) (size : q.size ≡ r.size) (count : q.count ≡ r.count
   can_same =
       ap (λ (ps : List Pair). can_join q ps (last_superblock q)) pairs_same
       ∙ ap (can_join q (superblock_pairs r)) last_same
-      ∙ ap (λ (n : ℕ). list_all (λ p. all_can n q.count (option_map (joined (superblock_pairs r) (last_superblock r) p) (q.part p)))
+      ∙ ap (λ (n : ℕ). list_all (λ p. all_can n q.count (option_map (joined_of_superblocks (superblock_pairs r) (last_superblock r) p) (q.part p)))
       (superblock_pairs r)) size
-      ∙ ap (λ (n : ℕ). list_all (λ p. all_can r.size n (option_map (joined (superblock_pairs r) (last_superblock r) p) (q.part p)))
+      ∙ ap (λ (n : ℕ). list_all (λ p. all_can r.size n (option_map (joined_of_superblocks (superblock_pairs r) (last_superblock r) p) (q.part p)))
       (superblock_pairs r)) count
-      ∙ all_alike (λ p. all_can r.size r.count (option_map (joined (superblock_pairs r) (last_superblock r) p) (r.part p)))
-      (λ p. all_can r.size r.count (option_map (joined (superblock_pairs r) (last_superblock r) p) (q.part p))) (superblock_pairs r)
-      (λ p there. ap (λ (o : Option StoredPart). all_can r.size r.count (option_map (joined (superblock_pairs r) (last_superblock r) p) o))
+      ∙ all_alike (λ p. all_can r.size r.count (option_map (joined_of_superblocks (superblock_pairs r) (last_superblock r) p) (r.part p)))
+      (λ p. all_can r.size r.count (option_map (joined_of_superblocks (superblock_pairs r) (last_superblock r) p) (q.part p))) (superblock_pairs r)
+      (λ p there. ap (λ (o : Option StoredPart). all_can r.size r.count (option_map (joined_of_superblocks (superblock_pairs r) (last_superblock r) p) o))
       (agree p there))
 
   -- a part of both counts as the same
@@ -114,7 +114,7 @@ as_it_was r p (Some s) none = ap (λ (x : StoredPart). Some x)
     (ap (λ (b : Bool). if b then if same_pair p root then led_by (last_superblock r) (behind_superblock s.entries) else
     behind_superblock s.entries else s.entries) none))
 
--- ---- a joined image is spelled anew
+-- ---- a joined_of_superblocks image is spelled anew
 
 module _ (d : Disk) (r : Reading) (g f : Disk) (reads : ReadsBlocks d r) (anew : IsSpelledAnew d r g) (is : IsJoinedImage g f) where
   -- the superblocks' pairs begin the longest front
@@ -180,7 +180,7 @@ module _ (d : Disk) (r : Reading) (g f : Disk) (reads : ReadsBlocks d r) (anew :
 reads_one : (d : Disk) (r : Reading) → ReadsBlocks d r → ReadsBlocks d (one_superblock r)
 reads_one d r reads = record { size = reads.size; count = reads.count; chain = reads.chain; content = reads.content }
 
--- the law, for images that are lowered and then joined
+-- the law, for images that are lowered and then joined_of_superblocks
 pub relaid_images_hold : LawsBelow → LivesAreRead → RelaidImagesHoldWhatIsRead
 relaid_images_hold laws lives d f v disk is sound =
     let later : Reading = later_reading_of d in

@@ -18,8 +18,8 @@ use Rattle.lfs_fs.specs.Gathering.{PairPart}
 use Rattle.lfs_fs.specs.Reading.{Reading, reading_of}
 use Rattle.lfs_fs.proofs.ContainsLemmas.{contains_cases, contains_first, contains_later, contains_mapped, contains_none}
 use Rattle.lfs_lower.specs.Joined.{IsJoinedImage}
-use Rattle.lfs_lower.specs.Joining.{AreJoined, ArePartsPut, CanPut, led_parts, parts_held, stripped}
-use Rattle.lfs_lower.specs.OneSuperblock.{all_can, can_be_put, can_join, joined, last_superblock, lead, one_superblock, part_joined, superblock_pairs}
+use Rattle.lfs_lower.specs.Joining.{AreSuperblockParts, ArePartsPut, CanPut, led_parts, parts_held, stripped}
+use Rattle.lfs_lower.specs.OneSuperblock.{all_can, can_be_put, can_join, joined_of_superblocks, last_superblock, lead, one_superblock, part_joined, superblock_pairs}
 use Rattle.lfs_lower.proofs.FreshPairs.{AreFresh, along_fresh}
 use Rattle.lfs_lower.proofs.GatheredParts.{held_none, held_some}
 use Rattle.lfs_lower.proofs.JoinedParts.{joined_part, last_is, led_is}
@@ -30,17 +30,17 @@ use Rattle.lfs_lower.proofs.PartsPut.{pair_in, pairs_in}
 
 can_by : (r : Reading) (pairs : List Pair) (last : Option StoredEntry) (p : Pair) (ps : List Pair) (o : Option StoredPart) → r.part p ≡ o
     → list_all (λ (q : PairPart). can_be_put r.size r.count q.1) (map (joined_part pairs last) (parts_held r ps))
-    ≡ list_all (λ (q : Pair). all_can r.size r.count (option_map (joined pairs last q) (r.part q))) ps
+    ≡ list_all (λ (q : Pair). all_can r.size r.count (option_map (joined_of_superblocks pairs last q) (r.part q))) ps
     → list_all (λ (q : PairPart). can_be_put r.size r.count q.1) (map (joined_part pairs last) (parts_held r (p ∷ ps)))
-    ≡ list_all (λ (q : Pair). all_can r.size r.count (option_map (joined pairs last q) (r.part q))) (p ∷ ps)
+    ≡ list_all (λ (q : Pair). all_can r.size r.count (option_map (joined_of_superblocks pairs last q) (r.part q))) (p ∷ ps)
 can_by r pairs last p ps None read rest = rw (held_none r p ps read, read) rest
 can_by r pairs last p ps (Some s) read rest =
-    rw (held_some r p ps s read, read) (ap (λ (t : Bool). can_be_put r.size r.count (joined pairs last p s) && t) rest)
+    rw (held_some r p ps s read, read) (ap (λ (t : Bool). can_be_put r.size r.count (joined_of_superblocks pairs last p s) && t) rest)
 
--- whether each part can be put is whether the pairs can be joined
+-- whether each part can be put is whether the pairs can be joined_of_superblocks
 can_is : (r : Reading) (pairs : List Pair) (last : Option StoredEntry) (ps : List Pair)
     → list_all (λ (q : PairPart). can_be_put r.size r.count q.1) (map (joined_part pairs last) (parts_held r ps))
-    ≡ list_all (λ (q : Pair). all_can r.size r.count (option_map (joined pairs last q) (r.part q))) ps
+    ≡ list_all (λ (q : Pair). all_can r.size r.count (option_map (joined_of_superblocks pairs last q) (r.part q))) ps
 can_is r pairs last [] = refl
 can_is r pairs last (p ∷ ps) = can_by r pairs last p ps (r.part p) refl (can_is r pairs last ps)
 
@@ -154,7 +154,7 @@ can_put_all d parts is complete can =
 
 -- ---- the image
 
--- whether the superblocks' pairs can be joined
+-- whether the superblocks' pairs can be joined_of_superblocks
 abbrev pub can_be_joined : Disk → Bool
 can_be_joined d = can_join (reading_of d) (superblock_pairs (reading_of d)) (last_superblock (reading_of d))
 
@@ -183,7 +183,7 @@ held_by d e p (Some s) depend put can there read =
     ∙ ap (λ (t : Bool). Some (part_joined t pairs last p s)) (sym can)
     ∙ ap (option_map (part_joined (can_be_joined d) pairs last p)) (sym read)
 
--- where all can be, and their pairs hold them, it is joined
+-- where all can be, and their pairs hold them, it is joined_of_superblocks
 joined_is : (d e : Disk) → PartsDependOnTheirBlocks → ArePartsPut d e (parts_to_be d) → can_be_joined d ≡ true → IsJoinedImage d e
 joined_is d e depend put can = record {
   disk = put.disk;
@@ -215,7 +215,7 @@ stays_is d is can = record {
 
 -- ---- as the code has them
 
-module _ (d : Disk) (parts : List PairPart) (h : AreJoined d parts) where
+module _ (d : Disk) (parts : List PairPart) (h : AreSuperblockParts d parts) where
   is_to_be : parts ≡ parts_to_be d
   is_to_be =
       let r = reading_of d in

@@ -17,7 +17,7 @@ use Rattle.lfs_fs.proofs.BothSidesLemmas.{not_root}
 use Rattle.lfs_fs.proofs.ContainsLemmas.{contains_first, contains_later}
 use Rattle.lfs_fs.proofs.PairLemmas.{same_pair-refl}
 use Rattle.lfs_fs.specs.Gathering.{PairPart}
-use Rattle.lfs_lower.specs.OneSuperblock.{entry_or, is_fresh, joined, last_from, lead, pairs_along, superblock_pairs, lowered_entry, superblock_at, superblock_in}
+use Rattle.lfs_lower.specs.OneSuperblock.{entry_or, is_fresh, joined_of_superblocks, last_from, lead, pairs_along, superblock_pairs, lowered_entry, superblock_at, superblock_in}
 use Rattle.lfs_lower.specs.Joining.{last_in, led_parts, lowered_in, parts_held, stripped}
 use Rattle.lfs_lower.proofs.FreshPairs.{along_fresh}
 use Rattle.lfs_lower.proofs.GatheredParts.{along_none, held_none, held_some, lead_none}
@@ -77,7 +77,7 @@ last_is r found (p ∷ ps) = last_by r found p ps (r.part p) refl (λ other. las
 
 -- a part as it is to be
 abbrev pub joined_part : List Pair → Option StoredEntry → PairPart → PairPart
-joined_part pairs last p = (p.0, joined pairs last p.0 p.1)
+joined_part pairs last p = (p.0, joined_of_superblocks pairs last p.0 p.1)
 
 any_there : (pairs : List Pair) (p : Pair) → Contains pairs p → list_any (same_pair p) pairs ≡ true
 any_there pairs p (k, within, is) =

@@ -22,7 +22,7 @@ begins_so [] = false
 begins_so (e ∷ es) = is_superblock e
 
 -- parts are gathered of some pairs of superblocks, whose blocks are marked, and this pair may follow
-pub record IsGathered (r : Reading) (used : List Bool) (parts : List PairPart) (from : Option Pair) : Type 0 where
+pub record AreGathered (r : Reading) (used : List Bool) (parts : List PairPart) (from : Option Pair) : Type 0 where
   pub before : List Pair
   pub n : ℕ
   pub len : length used ≡ r.count
@@ -87,6 +87,6 @@ abbrev pub with_one : List PairPart → List PairPart
 with_one ps = led_parts (last_in None ps) (map stripped ps)
 
 -- the parts that the pairs of superblocks are to hold
-pub record AreJoined (d : Disk) (parts : List PairPart) : Type 0 where
+pub record AreSuperblockParts (d : Disk) (parts : List PairPart) : Type 0 where
   pub is : parts ≡ with_one (parts_held (reading_of d) (superblock_pairs (reading_of d)))
   pub complete : All (λ p. AllByRecursion IsComplete p.1.entries) parts

@@ -40,6 +40,6 @@ IsOwnPart size bytes own =
     (IsDisk (image_of size bytes) × (own ≡ own_part (image_of size bytes))) ⊎ ((fault : ImageFault) × IsNoImage fault size bytes × (own ≡ bytes))
 
 -- the image with which bytes begin: of as many whole blocks as are there, read in a manner, as many as its superblock states
-abbrev pub IsWithin : Bool → ℕ → List ℕ → List ℕ → Type 0
-IsWithin by_device size bytes image =
+abbrev pub IsImageWithin : Bool → ℕ → List ℕ → List ℕ → Type 0
+IsImageWithin by_device size bytes image =
     (complete : List ℕ) × IsReadAs by_device size (complete_blocks size bytes) complete × IsOwnPart size complete image

@@ -8,8 +8,8 @@ abbrev pub from_place : List ℕ → ℕ → Option (List ℕ)
 from_place front at = if nat_le at (length front) then Some (drop at front) else None
 
 -- these bytes stand at a place
-abbrev pub begins_at : List ℕ → ℕ → List ℕ → Bool
-begins_at front at bytes = option_map_or (λ behind. starts_with nat_eq behind bytes) (from_place front at) false
+abbrev pub stands_in : List ℕ → ℕ → List ℕ → Bool
+stands_in front at bytes = option_map_or (λ behind. starts_with nat_eq behind bytes) (from_place front at) false
 
 -- a superblock's name
 abbrev pub magic : List ℕ
@@ -23,6 +23,6 @@ created = 0xbf ∷ 0xef ∷ 0xff ∷ 0xff ∷ []
 -- that and its tag; a tag that creates the entry may stand before them
 abbrev pub superblock_words : List ℕ → Option (List ℕ)
 superblock_words front =
-    if begins_at front 8 magic then from_place front 20
-    else if begins_at front 4 created && begins_at front 12 magic then from_place front 24
+    if stands_in front 8 magic then from_place front 20
+    else if stands_in front 4 created && stands_in front 12 magic then from_place front 24
     else None

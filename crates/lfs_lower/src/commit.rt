@@ -5,7 +5,7 @@ ghost use Rattle.lfs_tag.specs.EditData.{data_bytes};
 ghost use Rattle.lfs_tag.specs.Tag.{data_len, word_of};
 ghost use Rattle.lfs_tag.specs.Tags.{item_with};
 ghost use Rattle.lfs_lower.specs.Commits.{later_at};
-ghost use Rattle.lfs_lower.specs.Kept.{IsCommitPushed, IsCommitRead, IsPushed, kept};
+ghost use Rattle.lfs_lower.specs.Kept.{IsCommitPushed, IsCommitRead, IsPushed, items_kept};
 ghost use Rattle.lfs_lower.specs.Spelled.{lowered_header, tags_lowered};
 
 use crate::header::lower_header;
@@ -45,7 +45,7 @@ fn push_kept<'a>(
     edits: &mut Vec<Edit<'a>>,
 ) -> Result<(), AllocError>
     requires { length content.now ≡ data_len (word_of tag) }
-    ensures { OnOk result (IsPushed edits.old.items (kept in_root (item_with tag content.now ∷ [])) edits.new.items) }
+    ensures { OnOk result (IsPushed edits.old.items (items_kept in_root (item_with tag content.now ∷ [])) edits.new.items) }
 {
     if tag.main_kind() == CHECKSUM {
         return Ok(());

@@ -9,7 +9,7 @@ ghost use Rattle.lfs_meta.specs.Runs.{most_entries};
 ghost use Rattle.lfs_fs.specs.Front.{pairs_name};
 ghost use Rattle.lfs_fs.specs.Thread.{next};
 ghost use Rattle.lfs_lower.specs.Joined.{IsJoinedImage};
-ghost use Rattle.lfs_lower.specs.Joining.{AreJoined, ArePartsPut, CanPut, IsPartPut, begins_so, last_in, led_parts, lowered_in, stripped};
+ghost use Rattle.lfs_lower.specs.Joining.{AreSuperblockParts, ArePartsPut, CanPut, IsPartPut, begins_so, last_in, led_parts, lowered_in, stripped};
 ghost use Rattle.lfs_lower.specs.OneSuperblock.{can_be_put, is_header, lowered_entry, tail_within};
 
 use crate::header::lower_header;
@@ -174,7 +174,7 @@ fn put_parts(alloc: Global, image: &mut Image, parts: &[Part]) -> Result<(), All
 /// The parts that the superblocks' pairs are to hold: each without the superblock that it begins with, and the last superblock before
 /// the entries of the first.
 fn joined_parts<B: Blocks>(alloc: Global, blocks: &B) -> Result<Vec<Part>, AllocError>
-    ensures { IfOk result (λ parts. AreJoined (B.disk blocks.now) parts.items) }
+    ensures { IfOk result (λ parts. AreSuperblockParts (B.disk blocks.now) parts.items) }
 {
     let mut parts = superblock_parts(alloc, blocks)?;
     let last = take_superblocks(&mut parts);

@@ -5,7 +5,7 @@ ghost use Rattle.lfs_tag.specs.Tag.{data_len, word_of};
 ghost use Rattle.lfs_tag.specs.Found.{tag_found};
 ghost use Rattle.lfs_tag.specs.Reading.{closed};
 ghost use Rattle.lfs_lower.specs.Commits.{closes, later_at};
-ghost use Rattle.lfs_lower.specs.Seen.{commit_found, commit_seen};
+ghost use Rattle.lfs_lower.specs.Seen.{later_commit_found, later_commit_seen};
 ghost use Rattle.lfs_lower.specs.Version.{last_stated, stated_by};
 
 use lfs_block::{crc32, little_word};
@@ -52,7 +52,7 @@ fn stated_by(so_far: Option<u32>, found: Found<'_>) -> Option<u32>
 /// The commit that a tag closes, if it holds the checksum `sum`.
 #[tactic(auto, unfolding(lfs_tag::specs::Reading::closed))]
 fn closed<'a>(sum: u32, version: Option<u32>, found: Found<'a>) -> Option<Committed<'a>>
-    ensures { option_map commit_found result ≡ option_map (commit_seen version) (closed sum (tag_found found.entry)) }
+    ensures { option_map later_commit_found result ≡ option_map (later_commit_seen version) (closed sum (tag_found found.entry)) }
 {
     let commit = lfs_tag::closed(sum, found)?;
     Some(Committed {
@@ -70,7 +70,7 @@ pub(crate) fn commit_at<'a>(
     mut version: Option<u32>,
     bytes: &'a [u8],
 ) -> Option<Committed<'a>>
-    ensures { option_map commit_found result ≡ option_map (commit_seen version) (later_at sum prev bytes.entry.now) }
+    ensures { option_map later_commit_found result ≡ option_map (later_commit_seen version) (later_at sum prev bytes.entry.now) }
 {
     let mut rest = bytes;
     while let Some(found) = tag_at(prev, rest) {

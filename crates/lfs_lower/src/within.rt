@@ -3,7 +3,7 @@
 ghost use Rattle.std.specs.Prelude.{◌≡◌, IfErr, IfOk, true};
 ghost use Rattle.lfs_fs.specs.Reading.{reading_of};
 ghost use Rattle.lfs_lower.specs.ReadAs.{IsReadAs};
-ghost use Rattle.lfs_lower.specs.Within.{IsOwnPart, IsWithin, count_in, count_stated, own_part, complete_blocks};
+ghost use Rattle.lfs_lower.specs.Within.{IsOwnPart, IsImageWithin, count_in, count_stated, own_part, complete_blocks};
 
 use crate::by_device::read_by_device;
 use crate::superblocks::{is_superblock, part_at};
@@ -103,7 +103,7 @@ pub fn read_within(
     size: u32,
     bytes: Vec<u8>,
 ) -> Result<Vec<u8>, AllocError>
-    ensures { IfOk result (λ image. IsWithin by_device size bytes.items image.items) }
+    ensures { IfOk result (λ image. IsImageWithin by_device size bytes.items image.items) }
 {
     let complete = read_as(alloc, by_device, size, complete_blocks(size, bytes))?;
     own_bytes(alloc, size, complete)

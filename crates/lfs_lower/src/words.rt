@@ -2,7 +2,7 @@
 
 ghost use Rattle.std.specs.Prelude.{◌≡◌};
 ghost use Rattle.std.specs.Option.{option_map};
-ghost use Rattle.lfs_lower.specs.Words.{begins_at, from_place, superblock_words};
+ghost use Rattle.lfs_lower.specs.Words.{stands_in, from_place, superblock_words};
 
 /// A superblock's name.
 const MAGIC: &[u8] = b"littlefs";
@@ -24,7 +24,7 @@ fn from_place(front: &[u8], at: usize) -> Option<&[u8]>
 
 /// Whether these bytes stand at a place.
 fn begins_at(front: &[u8], at: usize, bytes: &[u8]) -> bool
-    ensures { result ≡ begins_at front.now at bytes.now }
+    ensures { result ≡ stands_in front.now at bytes.now }
 {
     match from_place(front, at) {
         Some(behind) => behind.starts_with(bytes),

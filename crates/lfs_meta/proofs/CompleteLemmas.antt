@@ -8,7 +8,7 @@ use Rattle.lfs_block.specs.declared.mount_fault.MountFault.{MountFault}
 use Rattle.lfs_block.specs.declared.mount_fault.MountFault.TheVariants as fault
 use Rattle.lfs_tag.proofs.Steps.{map_some}
 use Rattle.lfs_meta.specs.Entry.{RawEntry, StoredEntry}
-use Rattle.lfs_meta.specs.Cause.{EntryCause, EntriesCause}
+use Rattle.lfs_meta.specs.Cause.{RawEntryCause, RawEntriesCause}
 use Rattle.lfs_meta.specs.Complete.{kind_takes_body, kind_takes_name, complete_by, complete, all_complete, complete_part}
 use Rattle.lfs_meta.specs.declared.kind.Kind.{Kind}
 use Rattle.lfs_meta.specs.Attribute.{Attributes}
@@ -46,8 +46,8 @@ all_complete-more es ws i d w within all here = ap all_complete (take_more es i 
     ∙ all_complete-push (take i es) ws (get_or es i d) w all here
 
 -- an entry that isn't complete is one of them
-pub entries-refused : (f : MountFault) (es : List RawEntry) (i : ℕ) (e : RawEntry) → i < length es → e ≡ get_or es i e → EntryCause f e
-    → EntriesCause f es
+pub entries-refused : (f : MountFault) (es : List RawEntry) (i : ℕ) (e : RawEntry) → i < length es → e ≡ get_or es i e → RawEntryCause f e
+    → RawEntriesCause f es
 entries-refused fault.IncompleteEntry es i e within is cause = (i, e, within, sym is, cause)
 entries-refused fault.BadName es i e within is cause = (i, e, within, sym is, cause)
 entries-refused fault.Memory es i e within is cause = tt

@@ -6,12 +6,12 @@ use Rattle.std.proofs.lemmas.Bool.Decides.{nat_tests}
 use Rattle.std.proofs.lemmas.List.{drop_more, drop_all}
 use Rattle.lfs_meta.specs.Entry.{StoredEntry}
 use Rattle.lfs_meta.specs.Runs.{onto, runs_after, run_takes}
-use Rattle.lfs_meta.specs.Weighing.{weight}
+use Rattle.lfs_meta.specs.Weighing.{weight_as_stored}
 use Rattle.lfs_meta.proofs.RunLemmas.{some_run}
 
--- the lengths of the runs behind one of this weight and so many entries
+-- the lengths of the runs behind one of this weight_as_stored and so many entries
 abbrev pub run_lengths : ℕ → ℕ → ℕ → List StoredEntry → List ℕ
-run_lengths room taken len es = map (λ run. length run) (runs_after weight room taken len es)
+run_lengths room taken len es = map (λ run. length run) (runs_after weight_as_stored room taken len es)
 
 -- the first run with n more entries in front
 abbrev pub with_more : ℕ → List ℕ → List ℕ
@@ -40,36 +40,36 @@ none_more (m ∷ ms) = ap (λ k. k ∷ ms) (omega arith)
 pub first : (room : ℕ) (all : List StoredEntry) → IsCutTo room all all [] 0 0
 first room all = record { complete = sym (none_more (run_lengths room 0 0 all)); light = omega arith; few = omega arith }
 
-step_by : (room taken len : ℕ) (e : StoredEntry) (es : List StoredEntry) (t : Bool) → run_takes room taken len (weight e) ≡ t
-    → run_lengths room taken len (e ∷ es) ≡ (if t then with_more 1 (run_lengths room (taken + weight e) (len + 1) es) else 0
-    ∷ with_more 1 (run_lengths room (weight e) 1 es))
+step_by : (room taken len : ℕ) (e : StoredEntry) (es : List StoredEntry) (t : Bool) → run_takes room taken len (weight_as_stored e) ≡ t
+    → run_lengths room taken len (e ∷ es) ≡ (if t then with_more 1 (run_lengths room (taken + weight_as_stored e) (len + 1) es) else 0
+    ∷ with_more 1 (run_lengths room (weight_as_stored e) 1 es))
 unfolding runs_after
 step_by room taken len e es true is =
-    rw is (onto_lengths e (runs_after weight room (taken + weight e) (len + 1) es) (some_run weight room (taken + weight e) (len + 1) es))
+    rw is (onto_lengths e (runs_after weight_as_stored room (taken + weight_as_stored e) (len + 1) es) (some_run weight_as_stored room (taken + weight_as_stored e) (len + 1) es))
 step_by room taken len e es false is =
-    rw is (ap (λ (ns : List ℕ). 0 ∷ ns) (onto_lengths e (runs_after weight room (weight e) 1 es) (some_run weight room (weight e) 1 es)))
+    rw is (ap (λ (ns : List ℕ). 0 ∷ ns) (onto_lengths e (runs_after weight_as_stored room (weight_as_stored e) 1 es) (some_run weight_as_stored room (weight_as_stored e) 1 es)))
 
 pub taken_more : (room : ℕ) (all : List StoredEntry) (e : StoredEntry) (left : List StoredEntry) (lengths : List ℕ) (taken len : ℕ)
-    → room ≤ 65536 → run_takes room taken len (weight e) ≡ true
-    → IsCutTo room all (e ∷ left) lengths taken len → IsCutTo room all left lengths (taken + weight e) (len + 1)
+    → room ≤ 65536 → run_takes room taken len (weight_as_stored e) ≡ true
+    → IsCutTo room all (e ∷ left) lengths taken len → IsCutTo room all left lengths (taken + weight_as_stored e) (len + 1)
 taken_more room all e left lengths taken len small full h =
-    let fits : taken + weight e ≤ room = grind (arith, nat_tests) in
+    let fits : taken + weight_as_stored e ≤ room = grind (arith, nat_tests) in
     let few : len < 1000 = grind (arith, nat_tests) in
     record {
       complete = h.complete ∙ ap (λ (ns : List ℕ). lengths ++ with_more len ns) (step_by room taken len e left true full)
-          ∙ ap (λ (ns : List ℕ). lengths ++ ns) (more_twice len (run_lengths room (taken + weight e) (len + 1) left));
+          ∙ ap (λ (ns : List ℕ). lengths ++ ns) (more_twice len (run_lengths room (taken + weight_as_stored e) (len + 1) left));
       light = omega (arith, fits, small);
       few = omega (arith, few);
     }
 
 pub left_more : (room : ℕ) (all : List StoredEntry) (e : StoredEntry) (left : List StoredEntry) (lengths : List ℕ) (taken len : ℕ)
-    → weight e ≤ 264708 → (run_takes room taken len (weight e) ≡ false)
-    → IsCutTo room all (e ∷ left) lengths taken len → IsCutTo room all left (lengths ++ len ∷ []) (weight e) 1
+    → weight_as_stored e ≤ 264708 → (run_takes room taken len (weight_as_stored e) ≡ false)
+    → IsCutTo room all (e ∷ left) lengths taken len → IsCutTo room all left (lengths ++ len ∷ []) (weight_as_stored e) 1
 left_more room all e left lengths taken len small full h = record {
   complete =
       h.complete ∙ ap (λ (ns : List ℕ). lengths ++ with_more len ns) (step_by room taken len e left false full)
-      ∙ ap (λ (n : ℕ). lengths ++ n ∷ with_more 1 (run_lengths room (weight e) 1 left)) (omega arith)
-      ∙ sym (append_assoc lengths (len ∷ []) (with_more 1 (run_lengths room (weight e) 1 left)));
+      ∙ ap (λ (n : ℕ). lengths ++ n ∷ with_more 1 (run_lengths room (weight_as_stored e) 1 left)) (omega arith)
+      ∙ sym (append_assoc lengths (len ∷ []) (with_more 1 (run_lengths room (weight_as_stored e) 1 left)));
   light = omega (arith, small);
   few = omega arith;
 }
@@ -84,14 +84,14 @@ next_entry : (all : List StoredEntry) (i : ℕ) (e : StoredEntry) → i < length
 next_entry all i e within is = drop_more all i e within ∙ ap (λ (x : StoredEntry). x ∷ drop (i + 1) all) (sym is)
 
 pub taken_next : (room : ℕ) (all : List StoredEntry) (i : ℕ) (e : StoredEntry) (w : ℕ) (lengths : List ℕ) (taken len : ℕ) → i < length all
-    → e ≡ get_or all i e → w ≡ weight e → room ≤ 65536 → run_takes room taken len w ≡ true
+    → e ≡ get_or all i e → w ≡ weight_as_stored e → room ≤ 65536 → run_takes room taken len w ≡ true
     → IsCutTo room all (drop i all) lengths taken len → IsCutTo room all (drop (i + 1) all) lengths (taken + w) (len + 1)
 taken_next room all i e w lengths taken len within is weighs small full h =
     rw weighs (taken_more room all e (drop (i + 1) all) lengths taken len small (ap (run_takes room taken len) (sym weighs) ∙ full)
     (subst (λ (left : List StoredEntry). IsCutTo room all left lengths taken len) (next_entry all i e within is) h))
 
 pub left_next : (room : ℕ) (all : List StoredEntry) (i : ℕ) (e : StoredEntry) (w : ℕ) (lengths : List ℕ) (taken len : ℕ) → i < length all
-    → e ≡ get_or all i e → w ≡ weight e → w ≤ 264708 → run_takes room taken len w ≡ false
+    → e ≡ get_or all i e → w ≡ weight_as_stored e → w ≤ 264708 → run_takes room taken len w ≡ false
     → IsCutTo room all (drop i all) lengths taken len → IsCutTo room all (drop (i + 1) all) (lengths ++ len ∷ []) w 1
 left_next room all i e w lengths taken len within is weighs small full h =
     rw weighs (left_more room all e (drop (i + 1) all) lengths taken len (omega (arith, weighs, small))

@@ -6,7 +6,7 @@ use Rattle.std.specs.List.{Any}
 use Rattle.lfs_block.specs.Disk.{Disk}
 use Rattle.lfs_block.specs.declared.mount_fault.MountFault.{MountFault}
 use Rattle.lfs_block.specs.declared.mount_fault.MountFault.TheVariants as fault
-use Rattle.lfs_tag.specs.Tag.{kind_of}
+use Rattle.lfs_tag.specs.Tag.{type_of}
 use Rattle.lfs_tag.specs.Commit.{Item}
 use Rattle.lfs_meta.specs.declared.action.Action.{Action}
 use Rattle.lfs_meta.specs.declared.kind.Kind.{Kind}
@@ -18,7 +18,7 @@ use Rattle.lfs_meta.specs.Entry.{RawEntry, StoredEntry}
 use Rattle.lfs_meta.specs.LiveBlock.{tags_of, part_of}
 use Rattle.lfs_meta.specs.Name.{Name}
 use Rattle.lfs_meta.specs.Part.{RawPart, StoredPart, empty_part}
-use Rattle.lfs_meta.specs.Replay.{acted, step_by, step, replay_from, replay, HasUnknown, HasBadFrom}
+use Rattle.lfs_meta.specs.Replay.{acted, replay_by, step, replay_from, replay, HasUnknown, HasBadFrom}
 use Rattle.lfs_meta.specs.Complete.{kind_takes_body, kind_takes_name, IsIncompleteBy, IsIncomplete, IsMisnamedBy, IsMisnamed, complete_by, complete}
 use Rattle.lfs_meta.specs.Complete.{all_complete, complete_part}
 use Rattle.lfs_meta.specs.HeldLaws.{PairsWithoutAPartHaveACause}
@@ -34,22 +34,22 @@ abbrev HasWrongTag : RawPart → List Item → Type 0
 HasWrongTag p ts = HasUnknown ts ⊎ HasBadFrom p ts
 
 -- the first tag is bad, or a later one is refused
-by_bad : (b : Bool) (p : RawPart) (a : Action) (t : Item) (ts : List Item) → action_of (kind_of t.word) ≡ Some a
+by_bad : (b : Bool) (p : RawPart) (a : Action) (t : Item) (ts : List Item) → action_of (type_of t.word) ≡ Some a
     → is_bad a t (length p.entries) ≡ b
     → option_and_then (λ q. replay_from q ts) (if b then None else Some (acted a t p)) ≡ None
     → ((q : RawPart) → replay_from q ts ≡ None → HasWrongTag q ts) → HasWrongTag p (t ∷ ts)
 unfolding replay_from
 by_bad true p a t ts known bad none later = inr ([], t, ts, refl, p, refl, a, known, bad)
 by_bad false p a t ts known good none later =
-    let done : step p t ≡ Some (acted a t p) = ap (λ (o : Option Action). step_by o p t) known
+    let done : step p t ≡ Some (acted a t p) = ap (λ (o : Option Action). replay_by o p t) known
     ∙ ap (λ (b : Bool). if b then None else Some (acted a t p)) good in
     elim (later (acted a t p) none) [
-      | inl unknown ↦ inl (any_later (λ (u : Item). action_of (kind_of u.word) ≡ None) t ts unknown)
+      | inl unknown ↦ inl (any_later (λ (u : Item). action_of (type_of u.word) ≡ None) t ts unknown)
       | inr bad ↦ inr (bad-cons p (acted a t p) t ts done bad)
     ]
 
-by_action : (o : Option Action) (p : RawPart) (t : Item) (ts : List Item) → action_of (kind_of t.word) ≡ o
-    → option_and_then (λ q. replay_from q ts) (step_by o p t) ≡ None
+by_action : (o : Option Action) (p : RawPart) (t : Item) (ts : List Item) → action_of (type_of t.word) ≡ o
+    → option_and_then (λ q. replay_from q ts) (replay_by o p t) ≡ None
     → ((q : RawPart) → replay_from q ts ≡ None → HasWrongTag q ts) → HasWrongTag p (t ∷ ts)
 by_action None p t ts unknown none later = inl (0, t, omega arith, refl, unknown)
 by_action (Some a) p t ts known none later = by_bad (is_bad a t (length p.entries)) p a t ts known refl none later
@@ -57,7 +57,7 @@ by_action (Some a) p t ts known none later = by_bad (is_bad a t (length p.entrie
 refused : (p : RawPart) (ts : List Item) → replay_from p ts ≡ None → HasWrongTag p ts
 unfolding replay_from
 refused p [] none = cc
-refused p (t ∷ ts) none = by_action (action_of (kind_of t.word)) p t ts refl none (λ q. refused q ts)
+refused p (t ∷ ts) none = by_action (action_of (type_of t.word)) p t ts refl none (λ q. refused q ts)
 
 -- ---- entries
 

@@ -3,14 +3,14 @@ use Rattle.std.proofs.Common.{◌≡◌, ℕ, ◌+◌, ◌-◌, ◌<◌, ◌≤�
 use Rattle.std.specs.Prelude.{replicate, slice_index_or}
 use Rattle.std.proofs.lemmas.List.{length-append, length-take, length-drop, length-replicate, length-set}
 use Rattle.std.proofs.lemmas.Option.{option_and_then_some}
-use Rattle.lfs_tag.specs.Tag.{kind_of, id_of}
+use Rattle.lfs_tag.specs.Tag.{type_of, id_of}
 use Rattle.lfs_tag.specs.Commit.{Item}
 use Rattle.lfs_meta.specs.declared.action.Action.{Action}
 use Rattle.lfs_meta.specs.declared.action.Action.TheVariants.{Create, Delete, SetName, SetBody, SetAttribute, SetTail, SetDelta}
 use Rattle.lfs_meta.specs.Action.{action_of, is_bad}
 use Rattle.lfs_meta.specs.Entry.{RawEntry, blank}
 use Rattle.lfs_meta.specs.Part.{RawPart, empty_part}
-use Rattle.lfs_meta.specs.Replay.{acted, step_by, step, replay_from, replay, at_entry, up_to, named_by, embodied_by, attributed_by}
+use Rattle.lfs_meta.specs.Replay.{acted, replay_by, step, replay_from, replay, at_entry, up_to, named_by, embodied_by, attributed_by}
 use Rattle.lfs_meta.proofs.ReplayFitsLemmas.{taken}
 
 at_entry-length : (i : ℕ) (f : RawEntry → RawEntry) (xs : List RawEntry) → length (at_entry i f xs) ≡ length xs
@@ -43,7 +43,7 @@ acted-few SetAttribute t p n most few = omega (arith, few, at_entry-length (id_o
 acted-few SetTail t p n most few = omega (arith, few)
 acted-few SetDelta t p n most few = omega (arith, few)
 
-step-few : (o : Option Action) (p q : RawPart) (t : Item) (n : ℕ) → 1024 ≤ n → length p.entries ≤ n → step_by o p t ≡ Some q
+step-few : (o : Option Action) (p q : RawPart) (t : Item) (n : ℕ) → 1024 ≤ n → length p.entries ≤ n → replay_by o p t ≡ Some q
     → length q.entries ≤ n + 1
 step-few None p q t n most few e = cc
 step-few (Some a) p q t n most few e =
@@ -56,7 +56,7 @@ replay_from-few p q [] n most few e = let same : p ≡ q = cc in subst (λ (r : 
 replay_from-few p q (t ∷ ts) n most few e =
     option_and_then_some (λ r. replay_from r ts) (step p t) q e
     (λ r stepped left.
-    let one : length r.entries ≤ n + 1 = step-few (action_of (kind_of t.word)) p r t n most few stepped in
+    let one : length r.entries ≤ n + 1 = step-few (action_of (type_of t.word)) p r t n most few stepped in
     let later : length q.entries ≤ n + 1 + length ts = replay_from-few r q ts (n + 1) (omega (arith, most)) one left in
     omega (arith, later))
 

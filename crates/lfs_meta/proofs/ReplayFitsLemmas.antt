@@ -7,7 +7,7 @@ use Rattle.std.proofs.lemmas.Bool.{cases_lt, cases_order}
 use Rattle.std.proofs.lemmas.Bool.Decides.{nat_tests}
 use Rattle.std.proofs.Math.ListN.{get_or-eq_default}
 use Rattle.std.proofs.lemmas.List.Elements.{All-nil, All-cons, All-append, All-replicate, All-set, All-take, All-drop, All-get_or}
-use Rattle.lfs_tag.specs.Tag.{kind_of, chunk_of, id_of, data_len}
+use Rattle.lfs_tag.specs.Tag.{type_of, chunk_of, id_of, data_len}
 use Rattle.lfs_tag.specs.Commit.{Item, IsItem}
 use Rattle.lfs_meta.specs.declared.action.Action.{Action}
 use Rattle.lfs_meta.specs.declared.action.Action.TheVariants.{Create, Delete, SetName, SetBody, SetAttribute, SetTail, SetDelta}
@@ -17,7 +17,7 @@ use Rattle.lfs_meta.specs.Body.{StoredBody, Inline, Chain, Directory_at, struct_
 use Rattle.lfs_meta.specs.Entry.{RawEntry, blank}
 use Rattle.lfs_meta.specs.Fits.{AttributeFits, RiseFrom, ContentsFit, RawEntryFits, RawPartFits}
 use Rattle.lfs_meta.specs.Part.{RawPart, empty_part}
-use Rattle.lfs_meta.specs.Replay.{acted, step_by, step, replay_from, replay, at_entry, up_to, named_by, embodied_by, attributed_by}
+use Rattle.lfs_meta.specs.Replay.{acted, replay_by, step, replay_from, replay, at_entry, up_to, named_by, embodied_by, attributed_by}
 use Rattle.lfs_meta.proofs.AttributeLemmas.{set_lesser, set_same, set_greater}
 
 content-small : (t : Item) → IsItem t → length t.content < 1023
@@ -79,7 +79,7 @@ named-fits t e item fits = record { name = content-small t item; contents = fits
 embodied-fits : (t : Item) (e : RawEntry) → IsItem t → RawEntryFits e → RawEntryFits (embodied_by t e)
 embodied-fits t e item fits = record {
   name = fits.name;
-  contents = body_named-fits (kind_of t.word) t.content (content-small t item);
+  contents = body_named-fits (type_of t.word) t.content (content-small t item);
   attributes = fits.attributes;
 }
 
@@ -132,7 +132,7 @@ pub taken : (b : Bool) (p q : RawPart) → (if b then None else Some p) ≡ Some
 taken true p q e = cc
 taken false p q e = cc
 
-step-fits : (o : Option Action) (p q : RawPart) (t : Item) → step_by o p t ≡ Some q → IsItem t → RawPartFits p → RawPartFits q
+step-fits : (o : Option Action) (p q : RawPart) (t : Item) → replay_by o p t ≡ Some q → IsItem t → RawPartFits p → RawPartFits q
 step-fits None p q t e item all = cc
 step-fits (Some a) p q t e item all = subst RawPartFits (taken (is_bad a t (length p.entries)) (acted a t p) q e)
     (acted-fits a t p item all)
@@ -148,7 +148,7 @@ unfolding replay_from
 replay_from-fits p q [] e items all = let same : p ≡ q = cc in subst RawPartFits same all
 replay_from-fits p q (t ∷ ts) e items all =
     rest-fits (step p t) (λ r. replay_from r ts) q e
-    (λ r stepped left. replay_from-fits r q ts left items.1 (step-fits (action_of (kind_of t.word)) p r t stepped items.0 all))
+    (λ r stepped left. replay_from-fits r q ts left items.1 (step-fits (action_of (type_of t.word)) p r t stepped items.0 all))
 
 empty-fits : RawPartFits empty_part
 unfolding empty_part

@@ -4,7 +4,7 @@ use Rattle.std.specs.Prelude.{option_and_then}
 use Rattle.std.specs.List.{AllByRecursion, Any}
 use Rattle.lfs_block.specs.declared.mount_fault.MountFault.{MountFault}
 use Rattle.lfs_block.specs.declared.mount_fault.MountFault.TheVariants as fault
-use Rattle.lfs_tag.specs.Tag.{kind_of}
+use Rattle.lfs_tag.specs.Tag.{type_of}
 use Rattle.lfs_tag.specs.Commit.{Item, IsItem}
 use Rattle.lfs_meta.specs.Action.{action_of}
 use Rattle.lfs_meta.specs.Part.{RawPart, empty_part}
@@ -47,7 +47,7 @@ more : (all : List Item) (p q : RawPart) (t : Item) (ts : List Item) → IsRepla
 more all p q t ts h e = record {
   complete = h.complete ∙ replay_from-cons p q t ts e;
   items = h.items.1;
-  unknown = λ u. h.unknown (any-cons (λ i. action_of (kind_of i.word) ≡ None) t ts u);
+  unknown = λ u. h.unknown (any-cons (λ i. action_of (type_of i.word) ≡ None) t ts u);
   bad = λ b. h.bad (bad-cons p q t ts e b);
 }
 

@@ -5,7 +5,7 @@ use Rattle.std.specs.Prelude.{option_and_then, option_map, if◌then◌else◌, 
 use Rattle.lfs_block.specs.Disk.{Disk}
 use Rattle.lfs_block.specs.declared.mount_fault.MountFault.{MountFault}
 use Rattle.lfs_block.specs.declared.mount_fault.MountFault.TheVariants as fault
-use Rattle.lfs_tag.specs.Tag.{kind_of}
+use Rattle.lfs_tag.specs.Tag.{type_of}
 use Rattle.lfs_tag.specs.Commit.{Item}
 use Rattle.lfs_meta.specs.declared.action.Action.{Action}
 use Rattle.lfs_meta.specs.declared.kind.Kind.{Kind}
@@ -14,7 +14,7 @@ use Rattle.lfs_meta.specs.Attribute.{Attributes}
 use Rattle.lfs_meta.specs.Body.{Pair, StoredBody}
 use Rattle.lfs_meta.specs.Entry.{RawEntry}
 use Rattle.lfs_meta.specs.Part.{RawPart, empty_part}
-use Rattle.lfs_meta.specs.Replay.{acted, step_by, step, replay_from, replay, HasBadFrom}
+use Rattle.lfs_meta.specs.Replay.{acted, replay_by, step, replay_from, replay, HasBadFrom}
 use Rattle.lfs_meta.specs.Complete.{kind_takes_body, kind_takes_name, IsIncompleteBy, IsIncomplete, IsMisnamedBy, IsMisnamed, complete_by, complete}
 use Rattle.lfs_meta.specs.Complete.{all_complete, complete_part}
 use Rattle.lfs_meta.specs.LiveBlock.{stored_part_of}
@@ -24,20 +24,20 @@ and_then-none : {A B : Type 0} (f : A → Option B) (o : Option A) → ((x : A) 
 and_then-none f None none = refl
 and_then-none f (Some x) none = none x
 
-unknown : (p : RawPart) (ts : List Item) (k : ℕ) (t : Item) → k < length ts → slice_index_or ts k t ≡ t → action_of (kind_of t.word) ≡ None
+unknown : (p : RawPart) (ts : List Item) (k : ℕ) (t : Item) → k < length ts → slice_index_or ts k t ≡ t → action_of (type_of t.word) ≡ None
     → replay_from p ts ≡ None
 unfolding replay_from
 unknown p [] k t within is none = absurd (omega arith)
 unknown p (u ∷ ts) zero t within is none =
-    ap (λ a. option_and_then (λ q. replay_from q ts) (step_by a p u)) (ap (λ (i : Item). action_of (kind_of i.word)) is ∙ none)
+    ap (λ a. option_and_then (λ q. replay_from q ts) (replay_by a p u)) (ap (λ (i : Item). action_of (type_of i.word)) is ∙ none)
 unknown p (u ∷ ts) (suc k) t within is none = and_then-none (λ q. replay_from q ts) (step p u) (λ q. unknown q ts k t (omega arith) is none)
 
-bad-here : (p : RawPart) (t : Item) (after : List Item) (a : Action) → action_of (kind_of t.word) ≡ Some a
+bad-here : (p : RawPart) (t : Item) (after : List Item) (a : Action) → action_of (type_of t.word) ≡ Some a
     → is_bad a t (length p.entries) ≡ true
     → replay_from p (t ∷ after) ≡ None
 unfolding replay_from
 bad-here p t after a known bad =
-    ap (λ o. option_and_then (λ q. replay_from q after) (step_by o p t)) known
+    ap (λ o. option_and_then (λ q. replay_from q after) (replay_by o p t)) known
     ∙ ap (λ b. option_and_then (λ q. replay_from q after) (if b then None else Some (acted a t p))) bad
 
 and_then-some : {A B : Type 0} (f g : A → Option B) (o : Option A) (z : B) (w : Option B) → option_and_then f o ≡ Some z

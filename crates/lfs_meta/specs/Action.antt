@@ -2,7 +2,7 @@
 -- are own).
 use Rattle.std.specs.Prelude.{ℕ, ◌/◌, ◌^◌, ◌==◌, ◌&&◌, ◌||◌, not, nat_lt, nat_le, Bool, List, Option, Some, None, if◌then◌else◌}
 use Rattle.std.specs.List.{list_all}
-use Rattle.lfs_tag.specs.Tag.{kind_of, id_of, len_of}
+use Rattle.lfs_tag.specs.Tag.{type_of, id_of, len_of}
 use Rattle.lfs_tag.specs.Commit.{Item}
 use Rattle.lfs_meta.specs.declared.action.Action.{Action}
 use Rattle.lfs_meta.specs.declared.action.Action.TheVariants.{Create, Delete, SetName, SetBody, SetAttribute, SetTail, SetDelta}
@@ -31,7 +31,7 @@ unfoldable pub is_bad : Action → Item → ℕ → Bool
 is_bad Create t count = nat_lt count (id_of t.word) || (id_of t.word == 0x3ff) || not (len_of t.word == 0)
 is_bad Delete t count = nat_le count (id_of t.word) || not (len_of t.word == 0)
 is_bad SetName t count = (id_of t.word == 0x3ff) || is_deleted t
-is_bad SetBody t count = nat_le count (id_of t.word) || is_deleted t || (not (kind_of t.word == 0x201) && not (len_of t.word == 8))
+is_bad SetBody t count = nat_le count (id_of t.word) || is_deleted t || (not (type_of t.word == 0x201) && not (len_of t.word == 8))
 is_bad SetAttribute t count = nat_le count (id_of t.word)
-is_bad SetTail t count = not (len_of t.word == 8) || ((kind_of t.word == 0x601) && is_null t.content)
+is_bad SetTail t count = not (len_of t.word == 8) || ((type_of t.word == 0x601) && is_null t.content)
 is_bad SetDelta t count = not (len_of t.word == 12)

@@ -37,18 +37,18 @@ PairCause BadName d pair = (p : RawPart) × (part_of d pair ≡ Some p) × Any I
 PairCause _ d pair = ⊥
 
 -- why an entry isn't made complete; want of memory has no cause
-abbrev pub EntryCause : MountFault → RawEntry → Type 0
-EntryCause IncompleteEntry e = IsIncomplete e
-EntryCause BadName e = IsMisnamed e
-EntryCause Memory e = Unit {0}
-EntryCause _ e = ⊥
+abbrev pub RawEntryCause : MountFault → RawEntry → Type 0
+RawEntryCause IncompleteEntry e = IsIncomplete e
+RawEntryCause BadName e = IsMisnamed e
+RawEntryCause Memory e = Unit {0}
+RawEntryCause _ e = ⊥
 
 -- why some entry isn't
-abbrev pub EntriesCause : MountFault → List RawEntry → Type 0
-EntriesCause IncompleteEntry es = Any IsIncomplete es
-EntriesCause BadName es = Any IsMisnamed es
-EntriesCause Memory es = Unit {0}
-EntriesCause _ es = ⊥
+abbrev pub RawEntriesCause : MountFault → List RawEntry → Type 0
+RawEntriesCause IncompleteEntry es = Any IsIncomplete es
+RawEntriesCause BadName es = Any IsMisnamed es
+RawEntriesCause Memory es = Unit {0}
+RawEntriesCause _ es = ⊥
 
 -- why a pair isn't read: it holds no part all of whose entries are complete, or want of memory, which has no cause
 abbrev pub ReadCause : MountFault → Disk → Pair → Type 0

@@ -23,5 +23,5 @@ pub record StoredEntry : Type 0 where
   pub attributes : Attributes
 
 -- the entry with its attributes changed
-abbrev pub with_attributes : (Attributes → Attributes) → StoredEntry → StoredEntry
-with_attributes f e = record { kind = e.kind; name = e.name; body = e.body; attributes = f e.attributes }
+abbrev pub entry_with_attributes : (Attributes → Attributes) → StoredEntry → StoredEntry
+entry_with_attributes f e = record { kind = e.kind; name = e.name; body = e.body; attributes = f e.attributes }

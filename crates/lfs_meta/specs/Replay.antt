@@ -2,7 +2,7 @@
 use Rattle.std.specs.Prelude.{◌≡◌, ℕ, ◌+◌, ◌-◌, ◌==◌, true, List, [], ◌∷◌, ◌++◌, length, replicate, Option, Some, None, option_and_then}
 use Rattle.std.specs.Prelude.{slice_set, slice_index_or, if◌then◌else◌, insert, remove}
 use Rattle.std.specs.List.{Any}
-use Rattle.lfs_tag.specs.Tag.{kind_of, chunk_of, id_of}
+use Rattle.lfs_tag.specs.Tag.{type_of, chunk_of, id_of}
 use Rattle.lfs_tag.specs.Commit.{Item}
 use Rattle.lfs_meta.specs.declared.action.Action.{Action}
 use Rattle.lfs_meta.specs.declared.action.Action.TheVariants.{Create, Delete, SetName, SetBody, SetAttribute, SetTail, SetDelta}
@@ -30,11 +30,11 @@ kind_named kind = if kind == 0x001 then File else if kind == 0x002 then Dir else
 
 -- an entry with this name
 abbrev pub named_by : Item → RawEntry → RawEntry
-named_by t e = record { name = Some (kind_named (kind_of t.word), t.content); body = e.body; attributes = e.attributes }
+named_by t e = record { name = Some (kind_named (type_of t.word), t.content); body = e.body; attributes = e.attributes }
 
 -- an entry with this struct
 abbrev pub embodied_by : Item → RawEntry → RawEntry
-embodied_by t e = record { name = e.name; body = Some (body_named (kind_of t.word) t.content); attributes = e.attributes }
+embodied_by t e = record { name = e.name; body = Some (body_named (type_of t.word) t.content); attributes = e.attributes }
 
 -- an entry with this attribute set, or taken out
 abbrev pub attributed_by : Item → RawEntry → RawEntry
@@ -53,26 +53,26 @@ tail_named kind bytes =
     else if kind == 0x600 then Soft (struct_word bytes 0) (struct_word bytes 4)
     else Hard (struct_word bytes 0) (struct_word bytes 4)
 
-abbrev pub with_entries : RawPart → List RawEntry → RawPart
-with_entries p entries = record { entries = entries; tail = p.tail; delta = p.delta }
+abbrev pub with_raw_entries : RawPart → List RawEntry → RawPart
+with_raw_entries p entries = record { entries = entries; tail = p.tail; delta = p.delta }
 
 -- what a tag of an action leaves
 unfoldable pub acted : Action → Item → RawPart → RawPart
-acted Create t p = with_entries p (insert p.entries (id_of t.word) blank)
-acted Delete t p = with_entries p (remove p.entries (id_of t.word))
-acted SetName t p = with_entries p (at_entry (id_of t.word) (named_by t) (up_to (id_of t.word) p.entries))
-acted SetBody t p = with_entries p (at_entry (id_of t.word) (embodied_by t) p.entries)
-acted SetAttribute t p = with_entries p (at_entry (id_of t.word) (attributed_by t) p.entries)
-acted SetTail t p = record { entries = p.entries; tail = tail_named (kind_of t.word) t.content; delta = p.delta }
+acted Create t p = with_raw_entries p (insert p.entries (id_of t.word) blank)
+acted Delete t p = with_raw_entries p (remove p.entries (id_of t.word))
+acted SetName t p = with_raw_entries p (at_entry (id_of t.word) (named_by t) (up_to (id_of t.word) p.entries))
+acted SetBody t p = with_raw_entries p (at_entry (id_of t.word) (embodied_by t) p.entries)
+acted SetAttribute t p = with_raw_entries p (at_entry (id_of t.word) (attributed_by t) p.entries)
+acted SetTail t p = record { entries = p.entries; tail = tail_named (type_of t.word) t.content; delta = p.delta }
 acted SetDelta t p = record { entries = p.entries; tail = p.tail; delta = t.content }
 
-abbrev pub step_by : Option Action → RawPart → Item → Option RawPart
-step_by None p t = None
-step_by (Some a) p t = if is_bad a t (length p.entries) then None else Some (acted a t p)
+abbrev pub replay_by : Option Action → RawPart → Item → Option RawPart
+replay_by None p t = None
+replay_by (Some a) p t = if is_bad a t (length p.entries) then None else Some (acted a t p)
 
 -- one more tag, undefined where its type isn't known or it is bad
 abbrev pub step : RawPart → Item → Option RawPart
-step p t = step_by (action_of (kind_of t.word)) p t
+step p t = replay_by (action_of (type_of t.word)) p t
 
 -- tags one after another, from what the ones before them left
 unfoldable pub replay_from : RawPart → List Item → Option RawPart
@@ -85,12 +85,12 @@ replay tags = replay_from empty_part tags
 
 -- some tag has a type that isn't known
 abbrev pub HasUnknown : List Item → Type 0
-HasUnknown tags = Any (λ t. action_of (kind_of t.word) ≡ None) tags
+HasUnknown tags = Any (λ t. action_of (type_of t.word) ≡ None) tags
 
 -- a beginning of the tags replays, and the next tag is bad
 abbrev pub HasBadFrom : RawPart → List Item → Type 0
 HasBadFrom start tags = (front : List Item) × (t : Item) × (after : List Item) × (tags ≡ front ++ t ∷ after)
-    × (p : RawPart) × (replay_from start front ≡ Some p) × (a : Action) × (action_of (kind_of t.word) ≡ Some a)
+    × (p : RawPart) × (replay_from start front ≡ Some p) × (a : Action) × (action_of (type_of t.word) ≡ Some a)
     × (is_bad a t (length p.entries) ≡ true)
 
 abbrev pub HasBad : List Item → Type 0

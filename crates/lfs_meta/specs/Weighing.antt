@@ -9,8 +9,8 @@ abbrev pub attributes_weight : Attributes → ℕ
 attributes_weight attributes = sum_by (λ a. 4 + length a.1) attributes
 
 -- an entry's tags, of four bytes each, and their data
-abbrev pub weight : StoredEntry → ℕ
-weight e = 4 + length e.name + (4 + length (body_bytes e.body)) + attributes_weight e.attributes
+abbrev pub weight_as_stored : StoredEntry → ℕ
+weight_as_stored e = 4 + length e.name + (4 + length (body_bytes e.body)) + attributes_weight e.attributes
 
 abbrev pub weights : List StoredEntry → ℕ
-weights es = sum_by weight es
+weights es = sum_by weight_as_stored es

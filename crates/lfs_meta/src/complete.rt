@@ -5,7 +5,7 @@ ghost use Rattle.std.specs.List.{AllByRecursion};
 ghost use Rattle.lfs_meta.specs.Complete.{IsComplete};
 ghost use Rattle.lfs_meta.specs.BodySeen.{body_seen};
 ghost use Rattle.lfs_meta.specs.BodyHeld.{body_held};
-ghost use Rattle.lfs_meta.specs.Cause.{EntryCause, EntriesCause};
+ghost use Rattle.lfs_meta.specs.Cause.{RawEntryCause, RawEntriesCause};
 ghost use Rattle.lfs_meta.specs.Fits.{AttributeFits, BodyFits, ContentsFit, EntryFits, RawEntryFits, RiseFrom};
 ghost use Rattle.lfs_meta.specs.Complete.{all_complete, kind_takes_body, kind_takes_name, complete};
 
@@ -116,7 +116,7 @@ fn complete(alloc: Global, draft: &EntryDraft<'_>) -> Result<Entry, MountFault>
     requires { RawEntryFits draft.now }
     ensures found { IfOk result (λ entry. complete draft.now ≡ Some entry) }
     ensures fits { IfOk result EntryFits }
-    ensures refused { IfErr result (λ fault. EntryCause fault draft.now) }
+    ensures refused { IfErr result (λ fault. RawEntryCause fault draft.now) }
 {
     let Some((kind, name)) = draft.name else {
         return Err(MountFault::IncompleteEntry);
@@ -150,7 +150,7 @@ pub(crate) fn all_complete(
     ensures found { IfOk result (λ entries. all_complete drafts.now ≡ Some entries.items) }
     ensures complete { IfOk result (λ entries. AllByRecursion IsComplete entries.items) }
     ensures fit { IfOk result (λ entries. All EntryFits entries.items) }
-    ensures refused { IfErr result (λ fault. EntriesCause fault drafts.now) }
+    ensures refused { IfErr result (λ fault. RawEntriesCause fault drafts.now) }
 {
     let mut entries = Vec::with_capacity(alloc, drafts.len())?;
     for draft in drafts {

@@ -2,7 +2,7 @@
 
 ghost use Rattle.std.specs.Prelude.{◌≡◌, ◌+◌, ◌<◌, ◌≤◌, ◌^◌, length, map, IfSome};
 ghost use Rattle.lfs_meta.specs.Runs.{runs_after, run_takes};
-ghost use Rattle.lfs_meta.specs.Weighing.{weight};
+ghost use Rattle.lfs_meta.specs.Weighing.{weight_as_stored};
 
 use crate::entry::Entry;
 use crate::weighing::weight;
@@ -25,7 +25,7 @@ pub fn run_takes(room: u32, taken: u32, len: usize, next: u32) -> bool
 /// more than `room` stands alone in a run, behind an empty one where it is the first. `None` where memory is refused.
 pub fn cut(alloc: Global, entries: &[Entry], room: u32) -> Option<Vec<usize>>
     requires { room ≤ 65536 }
-    ensures { IfSome result (λ lengths. lengths.items ≡ map (λ run. length run) (runs_after weight room 0 0 entries.now)) }
+    ensures { IfSome result (λ lengths. lengths.items ≡ map (λ run. length run) (runs_after weight_as_stored room 0 0 entries.now)) }
 {
     let mut lengths = Vec::new(alloc);
     let mut taken = 0;

@@ -47,7 +47,7 @@ impl Entry {
     ghost use Rattle.std.specs.Prelude.{◌≡◌, ◌==◌, ◌<◌, length, not, OnOk, OnErr};
     ghost use Rattle.std.specs.List.{list_any};
     ghost use Rattle.lfs_meta.specs.Attribute.{set_attribute, remove_attribute};
-    ghost use Rattle.lfs_meta.specs.Entry.{with_attributes};
+    ghost use Rattle.lfs_meta.specs.Entry.{entry_with_attributes};
 
     /// Whether the entry has an attribute of a kind.
     pub fn has_attribute(&self, kind: u8) -> bool
@@ -61,7 +61,7 @@ impl Entry {
     /// Sets the value of a kind. Want of memory changes nothing.
     pub fn set_attribute(&mut self, alloc: Global, kind: u8, value: &[u8]) -> Result<(), AllocError>
         requires { length value.now < 1023 }
-        ensures set { OnOk result (self.new ≡ with_attributes (set_attribute kind value.now) self.old) }
+        ensures set { OnOk result (self.new ≡ entry_with_attributes (set_attribute kind value.now) self.old) }
         ensures unchanged { OnErr result (self.new ≡ self.old) }
     {
         set_attribute(&mut self.attributes, alloc, kind, value)
@@ -69,7 +69,7 @@ impl Entry {
 
     /// Takes the value of a kind out.
     pub fn remove_attribute(&mut self, kind: u8)
-        ensures { self.new ≡ with_attributes (remove_attribute kind) self.old }
+        ensures { self.new ≡ entry_with_attributes (remove_attribute kind) self.old }
     {
         remove_attribute(&mut self.attributes, kind);
     }

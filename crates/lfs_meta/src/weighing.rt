@@ -4,7 +4,7 @@ ghost use Rattle.std.specs.Prelude.{◌≡◌, ◌+◌, ◌<◌, ◌≤◌, ◌^
 ghost use Rattle.lfs_meta.specs.BodyHeld.{body_held};
 ghost use Rattle.lfs_meta.specs.Fits.{RiseFrom};
 ghost use Rattle.lfs_meta.specs.Body.{body_bytes};
-ghost use Rattle.lfs_meta.specs.Weighing.{attributes_weight, weight};
+ghost use Rattle.lfs_meta.specs.Weighing.{attributes_weight, weight_as_stored};
 
 use crate::attribute::Attribute;
 use crate::body::Body;
@@ -56,7 +56,7 @@ fn body_len(body: &Body) -> usize
 /// The bytes that an entry takes of a block: four for each of its tags, with its name, its struct's data and its
 /// attributes' values.
 pub fn weight(entry: &Entry) -> u32
-    ensures value { result ≡ weight entry.now }
+    ensures value { result ≡ weight_as_stored entry.now }
     ensures small { result ≤ 264708 }
 {
     let named = WORD_LEN + entry.name.len() as u32;

@@ -25,7 +25,7 @@ use Rattle.lfs_law.proofs.FreeBlocks.{taken_below, taken_rise}
 use Rattle.lfs_law.proofs.FrugalPlans.{enough_free}
 use Rattle.lfs_law.proofs.LeastBlocks.{none_or_some}
 use Rattle.lfs_law.proofs.WrittenLemmas.{times_there}
-use Rattle.lfs_edit.specs.Carried.{IsCarriedOut, IsOutlined}
+use Rattle.lfs_edit.specs.Carried.{IsCarriedOnOutline, IsOutlined}
 use Rattle.lfs_edit.proofs.JudgedLemmas.{accepted_short}
 use Rattle.lfs_pack.specs.declared.new_image.NewImage.{NewImage}
 use Rattle.lfs_pack.specs.RowsCarried.{IsAtWork}
@@ -38,9 +38,9 @@ outlined_at t v at = record { holdable = at.unwritten.holdable; outline = at.out
 
 -- the same of lists that are the blocks
 pub does_on : (v : Volume) (c : Command) (taken blocks gone back : List ℕ) (o : Volume) → blocks ≡ taken → back ≡ gone
-    → IsCarriedOut v c taken gone o → IsCarriedOut v c blocks back o
+    → IsCarriedOnOutline v c taken gone o → IsCarriedOnOutline v c blocks back o
 does_on v c taken blocks gone back o are returned does =
-    subst (λ (l : List ℕ). IsCarriedOut v c l back o) (sym are) (subst (λ (l : List ℕ). IsCarriedOut v c taken l o) (sym returned) does)
+    subst (λ (l : List ℕ). IsCarriedOnOutline v c l back o) (sym are) (subst (λ (l : List ℕ). IsCarriedOnOutline v c taken l o) (sym returned) does)
 
 -- the size alone says how many blocks contents take
 data_same : (v w : Volume) (c : Command) → v.size ≡ w.size → data_blocks v c ≡ data_blocks w c
@@ -70,7 +70,7 @@ put_short v w c t at carries =
     (front_passes (checks v (named_command c)) (room_checks v (named_command c)) carries.accepted.unrefused)
 
 module _ (t : NewImage) (v : Volume) (c : Command) (blocks back : List ℕ) (o : Volume) (at : IsAtWork t v) (row : IsOfRow c)
-    (does : IsCarriedOut v c blocks back o) where
+    (does : IsCarriedOnOutline v c blocks back o) where
   abbrev d : Disk
   d = t.image.disk
 

@@ -12,7 +12,7 @@ use Rattle.lfs_block.specs.ImageFault.{IsNoImage}
 use Rattle.lfs_block.specs.declared.image_fault.ImageFault.{ImageFault}
 use Rattle.lfs_block.specs.declared.image_fault.ImageFault.TheVariants.{ImageLength, BadGeometry}
 use Rattle.lfs_file.proofs.LaidByteLemmas.{IsBytes-fill}
-use Rattle.lfs_pack.specs.Unwritten.{IsErased}
+use Rattle.lfs_pack.specs.Unwritten.{IsErasedImage}
 
 -- ---- they are no fault
 
@@ -55,7 +55,7 @@ module _ (d : Disk) (n : ℕ) (disk : IsDisk d) (are : d.bytes ≡ replicate n 0
       ∙ ap (take d.size) (drop-replicate (b * d.size) n 255)
       ∙ take-replicate d.size (n - b * d.size) 255 (omega (arith, more, long))
 
-  pub is_erased : (size count : ℕ) → d.size ≡ size → n ≡ size * count → IsErased size count d
+  pub is_erased : (size count : ℕ) → d.size ≡ size → n ≡ size * count → IsErasedImage size count d
   is_erased size count same is = record {
     disk = disk;
     size_is = same;

@@ -44,7 +44,7 @@ use Rattle.lfs_law.proofs.NamedBlocks.{supplies_once}
 use Rattle.lfs_law.proofs.WrittenLemmas.{pair_used, sum_thread}
 use Rattle.lfs_edit.specs.Carried.{IsHoldable}
 use Rattle.lfs_pack.specs.OutlinesTaken.{FitsNewPair, front_weight}
-use Rattle.lfs_pack.specs.Unwritten.{AreThere, CommandsGoOn, IsOfRow, IsUnwritten, LaysAndErases}
+use Rattle.lfs_pack.specs.Unwritten.{AreThere, CommandsGoOn, IsOfRow, IsReadyToWrite, LaysAndErases}
 use Rattle.lfs_pack.proofs.FitParts.{FitsRoom, left_fit}
 use Rattle.lfs_pack.proofs.KnownParts.{Known, OfNewPair, left_known}
 use Rattle.lfs_pack.proofs.StillThere.{bodies_kept, carried_there, still_there}
@@ -126,7 +126,7 @@ clean_clean y = by y.directories
 -- ---- one command
 
 module _ (laws : GoingLaws) (v w : Volume) (c : Command) (carries : CarriesOut c v w) (d laid e : Disk) (row : IsOfRow c)
-    (work : IsUnwritten d v) (lays : LaysAndErases v w c carries d laid e) where
+    (work : IsReadyToWrite d v) (lays : LaysAndErases v w c carries d laid e) where
   abbrev s : Supplies
   s = carries.supplies
 
@@ -299,7 +299,7 @@ module _ (laws : GoingLaws) (v w : Volume) (c : Command) (carries : CarriesOut c
     few = All-weaker (FitsNewPair e w) (λ (p : Part). length p.entries ≤ 65536) (λ p is. omega (arith, is.few)) (thread w.directories) fit;
   }
 
-  pub goes_on : IsUnwritten e w
+  pub goes_on : IsReadyToWrite e w
   goes_on = record {
     disk = lays.left.disk.disk;
     size = follows.size ∙ work.size ∙ sym e_size;

@@ -9,7 +9,7 @@ use Rattle.lfs_meta.specs.Fits.{TailFits}
 use Rattle.lfs_meta.specs.Laws.{NamesAreDecided}
 use Rattle.lfs_meta.specs.Name.{IsName}
 use Rattle.lfs_meta.specs.Complete.{IsComplete}
-use Rattle.lfs_meta.specs.Weighing.{weights, weight as stored_weight}
+use Rattle.lfs_meta.specs.Weighing.{weights, weight_as_stored as stored_weight}
 use Rattle.lfs_fs.specs.AsStored.{stored_entry}
 use Rattle.lfs_fs.specs.Directory.{Part, entries, thread}
 use Rattle.lfs_fs.specs.Entry.{Entry}

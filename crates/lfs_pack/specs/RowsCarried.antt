@@ -18,11 +18,11 @@ use Rattle.lfs_pack.specs.declared.new_image.NewImage.{NewImage}
 use Rattle.lfs_pack.specs.declared.pack_row.PackRow.{PackRow}
 use Rattle.lfs_pack.specs.Packed.{AreRowsOf, IsRowOf, Packed, commands, making, row_commands, setting}
 use Rattle.lfs_pack.specs.Stopped.{AreStopped, IsRowStopped}
-use Rattle.lfs_pack.specs.Unwritten.{IsUnwritten}
+use Rattle.lfs_pack.specs.Unwritten.{IsReadyToWrite}
 
 -- The image is at work on a volume, of which it has the outline and the table of used blocks.
 pub record IsAtWork (t : NewImage) (v : Volume) : Type 0 where
-  pub unwritten : IsUnwritten t.image.disk v
+  pub unwritten : IsReadyToWrite t.image.disk v
   pub outline : t.outline ≡ outlined v
   pub table : IsTableOf t.outline t.used
 

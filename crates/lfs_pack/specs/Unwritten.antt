@@ -35,7 +35,7 @@ AreThere d v = (l : Link) → Contains (links v.directories) l → (x : Entry) �
 
 -- The contents of a volume's files are in an image, and each of its parts fits the first block of its pair, the second one of which is erased, as
 -- is each block that the volume doesn't use: only its parts aren't written yet.
-pub record IsUnwritten (d : Disk) (v : Volume) : Type 0 where
+pub record IsReadyToWrite (d : Disk) (v : Volume) : Type 0 where
   pub disk : IsDisk d
   pub size : v.size ≡ d.size
   pub count : v.count ≡ d.count
@@ -47,7 +47,7 @@ pub record IsUnwritten (d : Disk) (v : Volume) : Type 0 where
 -- ---- how it begins, goes on and ends
 
 -- an image of this geometry, each block of which is erased
-pub record IsErased (size count : ℕ) (d : Disk) : Type 0 where
+pub record IsErasedImage (size count : ℕ) (d : Disk) : Type 0 where
   pub disk : IsDisk d
   pub size_is : d.size ≡ size
   pub count_is : d.count ≡ count
@@ -55,8 +55,8 @@ pub record IsErased (size count : ℕ) (d : Disk) : Type 0 where
 
 -- the law: it is one of the root alone, with any limits that an image may have
 abbrev pub ErasedAreUnwritten : Type 0
-ErasedAreUnwritten = (size count : ℕ) (d : Disk) (limits : Limits) → IsErased size count d → IsLimits limits
-    → IsUnwritten d (empty_volume size count limits [])
+ErasedAreUnwritten = (size count : ℕ) (d : Disk) (limits : Limits) → IsErasedImage size count d → IsLimits limits
+    → IsReadyToWrite d (empty_volume size count limits [])
 
 -- A command takes the least free blocks. What it takes for a file's contents is laid in an image (`laid`), and then what it gives back is erased
 -- (`e`).
@@ -71,8 +71,8 @@ pub record LaysAndErases (v w : Volume) (c : Command) (carries : CarriesOut c v 
 
 -- the law: then the image is one of what the command leaves
 abbrev pub CommandsGoOn : Type 0
-CommandsGoOn = (v w : Volume) (c : Command) (carries : CarriesOut c v w) (d laid e : Disk) → IsOfRow c → IsUnwritten d v
-    → LaysAndErases v w c carries d laid e → IsUnwritten e w
+CommandsGoOn = (v w : Volume) (c : Command) (carries : CarriesOut c v w) (d laid e : Disk) → IsOfRow c → IsReadyToWrite d v
+    → LaysAndErases v w c carries d laid e → IsReadyToWrite e w
 
 -- Its outline can be written into the image, which then is its new image.
 pub record CanBeFinished (d : Disk) (v : Volume) : Type 0 where
@@ -81,4 +81,4 @@ pub record CanBeFinished (d : Disk) (v : Volume) : Type 0 where
 
 -- the law: so it is
 abbrev pub UnwrittenCanBeFinished : Type 0
-UnwrittenCanBeFinished = (d : Disk) (v : Volume) → IsUnwritten d v → CanBeFinished d v
+UnwrittenCanBeFinished = (d : Disk) (v : Volume) → IsReadyToWrite d v → CanBeFinished d v

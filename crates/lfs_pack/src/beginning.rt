@@ -6,7 +6,7 @@ ghost use Rattle.lfs_fs.specs.Formatted.{empty_volume};
 ghost use Rattle.lfs_fs.specs.Pair.{root};
 ghost use Rattle.lfs_fs.specs.Superblock.{IsLimits};
 ghost use Rattle.lfs_pack.specs.RowsCarried.{IsAtWork};
-ghost use Rattle.lfs_pack.specs.Unwritten.{IsErased};
+ghost use Rattle.lfs_pack.specs.Unwritten.{IsErasedImage};
 
 use crate::image_laws::unwritten_images_go_on;
 use crate::new_image::NewImage;
@@ -17,7 +17,7 @@ use std::alloc::{AllocError, Global};
 /// An image whose blocks are erased.
 fn erased_image(alloc: Global, size: u32, count: u32) -> Result<Image, AllocError>
     requires { IsGeometry size count }
-    ensures { IfOk result (λ image. IsErased size count image.disk) }
+    ensures { IfOk result (λ image. IsErasedImage size count image.disk) }
 {
     let bytes = vec![in alloc; 0xff; size as usize * count as usize]?;
     let Ok(image) = Image::new(bytes, size) else {

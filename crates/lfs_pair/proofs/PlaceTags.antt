@@ -3,7 +3,7 @@ use Rattle.std.proofs.Common.{◌≡◌, ℕ, ◌+◌, ◌<◌, ◌≤◌, ◌==
 use Rattle.std.proofs.Common.{◌∙◌, arith, Some, length-append, nat_le, nat_lt}
 use Rattle.std.specs.Prelude.{insert, remove}
 use Rattle.std.proofs.lemmas.Bool.Decides.{nat_tests}
-use Rattle.lfs_tag.specs.Tag.{kind_of, chunk_of, id_of, len_of}
+use Rattle.lfs_tag.specs.Tag.{type_of, chunk_of, id_of, len_of}
 use Rattle.lfs_tag.specs.Commit.{Item}
 use Rattle.lfs_meta.specs.declared.kind.Kind.{Kind}
 use Rattle.lfs_meta.specs.Action.{is_deleted}
@@ -12,7 +12,7 @@ use Rattle.lfs_meta.specs.Body.{StoredBody, body_named, body_bytes}
 use Rattle.lfs_meta.specs.Entry.{RawEntry, StoredEntry, blank}
 use Rattle.lfs_meta.specs.Fits.{AttributeFits, BodyFits}
 use Rattle.lfs_meta.specs.Part.{RawPart}
-use Rattle.lfs_meta.specs.Replay.{at_entry, up_to, kind_named, named_by, embodied_by, attributed_by, with_entries, step}
+use Rattle.lfs_meta.specs.Replay.{at_entry, up_to, kind_named, named_by, embodied_by, attributed_by, with_raw_entries, step}
 use Rattle.lfs_meta.proofs.FitsLemmas.{body_bytes-small}
 use Rattle.lfs_pair.specs.Difference.{create_item, delete_item, gone_item}
 use Rattle.lfs_pair.specs.Spelling.{name_kind, body_kind, name_item, body_item, attribute_item}
@@ -37,7 +37,7 @@ create-step p few =
     let empty : (len_of t.word == 0) ≡ true = ap (λ (n : ℕ). n == 0) fields.len_is in
     let bad : Bool = nat_lt (length xs) (id_of t.word) || (id_of t.word == 0x3ff) || not (len_of t.word == 0) in
     let good : bad ≡ false = rw (there, some', empty) refl in
-    stepped old (with_entries old (insert xs (id_of t.word) blank)) t 0x401 bad fields.kind_is (create-acts old t) good
+    stepped old (with_raw_entries old (insert xs (id_of t.word) blank)) t 0x401 bad fields.kind_is (create-acts old t) good
     ∙ ap (λ (es : List RawEntry). Some (part_with es p.tail p.delta)) (insert-place p.done p.rest blank (id_of t.word) id)
 
 pub delete-step : (p : Place) (x : RawEntry) → length p.done < 1023
@@ -53,7 +53,7 @@ delete-step p x few =
     let empty : (len_of t.word == 0) ≡ true = ap (λ (n : ℕ). n == 0) fields.len_is in
     let bad : Bool = nat_le (length xs) (id_of t.word) || not (len_of t.word == 0) in
     let good : bad ≡ false = rw (there, empty) refl in
-    stepped old (with_entries old (remove xs (id_of t.word))) t 0x4ff bad fields.kind_is (delete-acts old t) good
+    stepped old (with_raw_entries old (remove xs (id_of t.word))) t 0x4ff bad fields.kind_is (delete-acts old t) good
     ∙ ap (λ (es : List RawEntry). Some (part_with es p.tail p.delta)) (remove-place p.done x p.rest (id_of t.word) id)
 
 -- the name of an entry that is there, or that the tag makes
@@ -70,7 +70,7 @@ name-step all p x e small few made =
     let kept : (len_of t.word == 0x3ff) ≡ false = grind (arith, nat_tests) in
     let bad : Bool = (id_of t.word == 0x3ff) || is_deleted t in
     let good : bad ≡ false = rw (some', kept) refl in
-    let kind : kind_named (kind_of t.word) ≡ e.kind = ap kind_named fields.kind_is ∙ name_kind-named e.kind in
+    let kind : kind_named (type_of t.word) ≡ e.kind = ap kind_named fields.kind_is ∙ name_kind-named e.kind in
     let old : RawPart = part_with all p.tail p.delta in
     let named : List RawEntry = at_entry (id_of t.word) (named_by t) (up_to (id_of t.word) all) in
     let entries : named ≡ p.done ++ (with_name e.kind e.name x ∷ p.rest) =
@@ -78,7 +78,7 @@ name-step all p x e small few made =
     ∙ ap (at_entry (id_of t.word) (named_by t)) made
     ∙ at_entry-place (named_by t) p.done x p.rest (id_of t.word) id
     ∙ ap (λ (k : Kind). p.done ++ (with_name k e.name x ∷ p.rest)) kind in
-    stepped old (with_entries old named) t (name_kind e.kind) bad fields.kind_is (name-acts e.kind old t) good
+    stepped old (with_raw_entries old named) t (name_kind e.kind) bad fields.kind_is (name-acts e.kind old t) good
     ∙ ap (λ (es : List RawEntry). Some (part_with es p.tail p.delta)) entries
 
 pub body-step : (p : Place) (x : RawEntry) (e : StoredEntry) → BodyFits e.body → length p.done < 1023
@@ -89,23 +89,23 @@ body-step p x e fits few =
     let small : length (body_bytes e.body) < 1023 = body_bytes-small e.body fits in
     let fields : HasFields t (body_kind e.body) (length p.done) (length (body_bytes e.body)) =
     item-fields (body_kind e.body) (length p.done) (body_bytes e.body) (body_kind-small e.body) (omega arith) (omega arith) in
-    let kind : kind_of t.word ≡ body_kind e.body = fields.kind_is in
+    let kind : type_of t.word ≡ body_kind e.body = fields.kind_is in
     let id : id_of t.word ≡ length p.done = fields.id_is in
     let len : len_of t.word ≡ length (body_bytes e.body) = fields.len_is in
     let room : length p.done < length xs = within p x in
     let there : nat_le (length xs) (id_of t.word) ≡ false = grind (arith, nat_tests) in
     let kept : (len_of t.word == 0x3ff) ≡ false = grind (arith, nat_tests) in
-    let complete : (not (kind_of t.word == 0x201) && not (len_of t.word == 8)) ≡ false = rw (kind, len) (body-good e.body) in
-    let bad : Bool = nat_le (length xs) (id_of t.word) || is_deleted t || (not (kind_of t.word == 0x201) && not (len_of t.word == 8)) in
+    let complete : (not (type_of t.word == 0x201) && not (len_of t.word == 8)) ≡ false = rw (kind, len) (body-good e.body) in
+    let bad : Bool = nat_le (length xs) (id_of t.word) || is_deleted t || (not (type_of t.word == 0x201) && not (len_of t.word == 8)) in
     let good : bad ≡ false = rw (there, kept, complete) refl in
-    let named : body_named (kind_of t.word) (body_bytes e.body) ≡ e.body =
+    let named : body_named (type_of t.word) (body_bytes e.body) ≡ e.body =
     ap (λ (k : ℕ). body_named k (body_bytes e.body)) kind ∙ body_named-bytes e.body fits in
     let old : RawPart = at_place p x in
     let embodied : List RawEntry = at_entry (id_of t.word) (embodied_by t) xs in
     let entries : embodied ≡ p.done ++ (with_body e.body x ∷ p.rest) =
     at_entry-place (embodied_by t) p.done x p.rest (id_of t.word) id
     ∙ ap (λ (b : StoredBody). p.done ++ (with_body b x ∷ p.rest)) named in
-    stepped old (with_entries old embodied) t (body_kind e.body) bad kind (body-acts e.body old t) good
+    stepped old (with_raw_entries old embodied) t (body_kind e.body) bad kind (body-acts e.body old t) good
     ∙ ap (λ (es : List RawEntry). Some (part_with es p.tail p.delta)) entries
 
 -- a tag of an attribute, which sets it or takes it out
@@ -117,11 +117,11 @@ attribute-step p x t kind len low fields =
     let room : length p.done < length xs = within p x in
     let good : nat_le (length xs) (id_of t.word) ≡ false = grind (arith, nat_tests) in
     let old : RawPart = at_place p x in
-    stepped old (with_entries old (at_entry (id_of t.word) (attributed_by t) xs)) t (0x300 + kind) (nat_le (length xs) (id_of t.word))
+    stepped old (with_raw_entries old (at_entry (id_of t.word) (attributed_by t) xs)) t (0x300 + kind) (nat_le (length xs) (id_of t.word))
     fields.kind_is (attribute-acts kind old t low) good
     ∙ ap (λ (es : List RawEntry). Some (part_with es p.tail p.delta)) (at_entry-place (attributed_by t) p.done x p.rest (id_of t.word) id)
 
-chunk : (word kind : ℕ) → kind < 256 → kind_of word ≡ 0x300 + kind → chunk_of word ≡ kind
+chunk : (word kind : ℕ) → kind < 256 → type_of word ≡ 0x300 + kind → chunk_of word ≡ kind
 chunk word kind low is = omega arith
 
 pub set-step : (p : Place) (x : RawEntry) (a : ℕ × List ℕ) → length p.done < 1023 → AttributeFits a

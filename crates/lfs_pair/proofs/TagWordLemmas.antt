@@ -1,7 +1,7 @@
 -- The fields of a written tag.
 use Rattle.std.proofs.Common.{◌≡◌, ℕ, ◌+◌, ◌*◌, ◌<◌, ◌^◌, List, length, refl, arith}
 use Rattle.lfs_tag.specs.Commit.{Item}
-use Rattle.lfs_tag.specs.Tag.{kind_of, id_of, len_of}
+use Rattle.lfs_tag.specs.Tag.{type_of, id_of, len_of}
 use Rattle.lfs_meta.specs.declared.kind.Kind.{Kind}
 use Rattle.lfs_meta.specs.declared.kind.Kind.TheVariants.{File, Dir, Super}
 use Rattle.lfs_meta.specs.Body.{StoredBody, Inline, Chain, Directory_at}
@@ -12,7 +12,7 @@ use Rattle.lfs_pair.specs.Spelling.{name_kind, body_kind, tag_item}
 abbrev pub word : ℕ → ℕ → ℕ → ℕ
 word kind id len = kind * 2 ^ 20 + id * 2 ^ 10 + len
 
-pub kind_of-word : (kind id len : ℕ) → kind < 2048 → id < 1024 → len < 1024 → kind_of (word kind id len) ≡ kind
+pub kind_of-word : (kind id len : ℕ) → kind < 2048 → id < 1024 → len < 1024 → type_of (word kind id len) ≡ kind
 kind_of-word kind id len hk hi hl = omega arith
 
 pub id_of-word : (kind id len : ℕ) → id < 1024 → len < 1024 → id_of (word kind id len) ≡ id
@@ -23,7 +23,7 @@ len_of-word kind id len hl = omega arith
 
 -- a tag whose word has these fields
 pub record HasFields (t : Item) (kind id len : ℕ) : Type 0 where
-  pub kind_is : kind_of t.word ≡ kind
+  pub kind_is : type_of t.word ≡ kind
   pub id_is : id_of t.word ≡ id
   pub len_is : len_of t.word ≡ len
 

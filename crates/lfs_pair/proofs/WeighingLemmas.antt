@@ -11,7 +11,7 @@ use Rattle.lfs_meta.specs.Entry.{StoredEntry}
 use Rattle.lfs_meta.specs.Part.{StoredPart}
 use Rattle.lfs_pair.specs.Spelling.{name_item, body_item, attribute_item, entry_tags, entries_tags, tail_tags, delta_tags, tag_item}
 use Rattle.lfs_pair.specs.Spelling.{part_tags}
-use Rattle.lfs_meta.specs.Weighing.{attributes_weight, weight, weights}
+use Rattle.lfs_meta.specs.Weighing.{attributes_weight, weight_as_stored, weights}
 
 abbrev item_len : Item → ℕ
 item_len t = 4 + length t.content
@@ -27,7 +27,7 @@ attributes-len id (a ∷ xs) =
       sum_by-cons (λ (b : ℕ × List ℕ). 4 + length b.1) a xs,
     )
 
-entry-len : (id : ℕ) (e : StoredEntry) → tags_len (entry_tags id e) ≡ weight e
+entry-len : (id : ℕ) (e : StoredEntry) → tags_len (entry_tags id e) ≡ weight_as_stored e
 entry-len id e =
     omega (
       arith,
@@ -45,7 +45,7 @@ entries-len id (e ∷ es) =
       entry-len id e,
       entries-len (id + 1) es,
       sum_by-append item_len (entry_tags id e) (entries_tags (id + 1) es),
-      sum_by-cons weight e es,
+      sum_by-cons weight_as_stored e es,
     )
 
 tail-len : (tail : Tail) → tags_len (tail_tags tail) ≤ 12

@@ -147,7 +147,7 @@ pub record IsPartAppended (d : Disk) (pair : Pair) (forced : Forced) (q : Stored
 
 -- A pair carried to a part, by a commit appended where there is room for it, else by its other block rewritten: in the image with that
 -- block the pair holds the part.
-pub record IsChanged (d : Disk) (pair : Pair) (forced : Forced) (q : StoredPart) (n : ℕ) (block : List ℕ) : Type 0 where
+pub record IsPairRewritten (d : Disk) (pair : Pair) (forced : Forced) (q : StoredPart) (n : ℕ) (block : List ℕ) : Type 0 where
   pub number : n ≡ changed_number d pair forced q
   pub bytes : block ≡ changed_block d pair forced q
   pub len : length block ≡ d.size

@@ -7,7 +7,7 @@ ghost use Rattle.lfs_meta.specs.LiveBlock.{stored_part_of};
 ghost use Rattle.lfs_meta.specs.Runs.{most_entries};
 ghost use Rattle.lfs_meta.specs.Weighing.{weights};
 ghost use Rattle.lfs_meta.specs.Complete.{IsComplete};
-ghost use Rattle.lfs_pair.specs.Appending.{IsChanged, IsPartAppended, appended_tags};
+ghost use Rattle.lfs_pair.specs.Appending.{IsPairRewritten, IsPartAppended, appended_tags};
 ghost use Rattle.lfs_pair.specs.DifferenceSeen.{forced_seen};
 ghost use Rattle.lfs_pair.specs.Writing.{stored_part};
 
@@ -125,7 +125,7 @@ pub fn change_pair<B: Blocks>(
     requires few { length entries.now ≤ most_entries }
     requires room { weights entries.now + 40 ≤ (B.disk blocks.now).size }
     requires tail { TailFits tail }
-    ensures { IfOk result (λ new. IsChanged (B.disk blocks.now) pair (forced_seen forced.entry) (stored_part entries.now tail delta) new.0 new.1.items) }
+    ensures { IfOk result (λ new. IsPairRewritten (B.disk blocks.now) pair (forced_seen forced.entry) (stored_part entries.now tail delta) new.0 new.1.items) }
 {
     match append_part(alloc, blocks, pair, entries, tail, &delta, forced)? {
         Some(new) => Ok(new),

@@ -40,15 +40,15 @@ fault_number (Other fault) = other_fault_number fault
 fault_number Differ = 0
 
 -- a number lies in a range, both ends included
-abbrev pub is_within : ℕ → ℕ → ℕ → Bool
-is_within first last number = nat_le first number && nat_le number last
+abbrev pub is_in_range : ℕ → ℕ → ℕ → Bool
+is_in_range first last number = nat_le first number && nat_le number last
 
 -- 1: a refused command, or images that differ; 2: usage; 3: a refused image or journal; 4: memory, or what the host refused
 abbrev pub status_of_number : ℕ → ℕ
 status_of_number number =
-    if number == 0 || is_within 30 43 number || number == 46 || is_within 53 55 number then 1
-    else (if is_within 64 65 number then 2
-    else (if is_within 1 21 number || is_within 50 52 number then 3
+    if number == 0 || is_in_range 30 43 number || number == 46 || is_in_range 53 55 number then 1
+    else (if is_in_range 64 65 number then 2
+    else (if is_in_range 1 21 number || is_in_range 50 52 number then 3
     else 4))
 
 -- 0 is done

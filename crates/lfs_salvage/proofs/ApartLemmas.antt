@@ -16,9 +16,9 @@ use Rattle.lfs_meta.specs.Part.{StoredPart}
 use Rattle.lfs_meta.specs.declared.kind.Kind.{Kind}
 use Rattle.lfs_meta.specs.declared.kind.Kind.TheVariants.{File, Dir, Super}
 use Rattle.lfs_salvage.specs.Apart.{ChainsAreApart, PartsAreInUse, TakesBlocks, calls_blocks, entries_blocks, fate_blocks, found_blocks}
-use Rattle.lfs_salvage.specs.AreaMade.{calls_uses, entries_uses, entry_uses, found_uses, parent_of}
-use Rattle.lfs_salvage.specs.Fate.{Fate, In_chain, Elsewhere, Lost, chain_fate, chained, fate, head_fate, is_free, is_used, kind_fate, settled, uses_behind}
-use Rattle.lfs_salvage.specs.PartsUsed.{areas_uses, part_uses, parts_uses}
+use Rattle.lfs_salvage.specs.AreaMade.{calls_uses, entries_uses, uses_by_entry, found_uses, call_parent}
+use Rattle.lfs_salvage.specs.Fate.{FileFate, In_chain, Elsewhere, Lost, chain_fate, uses_by_chain, fate, head_fate, is_free, is_used, kind_fate, settled, uses_behind}
+use Rattle.lfs_salvage.specs.PartsUsed.{areas_uses, uses_by_part, parts_uses}
 use Rattle.lfs_salvage.specs.declared.block_use.BlockUse.{BlockUse}
 use Rattle.lfs_salvage.specs.declared.block_use.BlockUse.TheVariants as use_of
 use Rattle.lfs_salvage.specs.declared.parent.Parent.{Parent}
@@ -96,21 +96,21 @@ takes_then a b e xs ys p q = record {
 
 -- ---- chains
 
-chained_len : (uses : List BlockUse) (bs : List ℕ) → length (chained uses bs) ≡ length uses
+chained_len : (uses : List BlockUse) (bs : List ℕ) → length (uses_by_chain uses bs) ≡ length uses
 chained_len uses [] = refl
 chained_len uses (b ∷ bs) = chained_len (slice_set uses b use_of.Chain) bs ∙ length-set uses b use_of.Chain
 
-chained_stays : (uses : List BlockUse) (bs : List ℕ) → Stays uses (chained uses bs)
+chained_stays : (uses : List BlockUse) (bs : List ℕ) → Stays uses (uses_by_chain uses bs)
 chained_stays uses [] = λ b is. is
 chained_stays uses (b ∷ bs) =
-    stays_then uses (slice_set uses b use_of.Chain) (chained (slice_set uses b use_of.Chain) bs) (set_stays uses b use_of.Chain refl)
+    stays_then uses (slice_set uses b use_of.Chain) (uses_by_chain (slice_set uses b use_of.Chain) bs) (set_stays uses b use_of.Chain refl)
     (chained_stays (slice_set uses b use_of.Chain) bs)
 
-chained_takes : (uses : List BlockUse) (bs : List ℕ) → All (λ b. b < length uses) bs → All (λ b. is_used (chained uses bs) b ≡ true) bs
-chained_takes uses [] within = All-nil (λ (b : ℕ). is_used (chained uses []) b ≡ true)
+chained_takes : (uses : List BlockUse) (bs : List ℕ) → All (λ b. b < length uses) bs → All (λ b. is_used (uses_by_chain uses bs) b ≡ true) bs
+chained_takes uses [] within = All-nil (λ (b : ℕ). is_used (uses_by_chain uses []) b ≡ true)
 chained_takes uses (b ∷ bs) within =
     let next = slice_set uses b use_of.Chain in
-    All-cons (λ (x : ℕ). is_used (chained next bs) x ≡ true) b bs
+    All-cons (λ (x : ℕ). is_used (uses_by_chain next bs) x ≡ true) b bs
     (chained_stays next bs b (set_takes uses b use_of.Chain refl (All-head (λ (x : ℕ). x < length uses) b bs within)))
     (chained_takes next bs (All-weaker (λ (x : ℕ). x < length uses) (λ (x : ℕ). x < length next)
     (λ x less. rw (length-set uses b use_of.Chain) less) bs (All-tail (λ (x : ℕ). x < length uses) b bs within)))
@@ -118,19 +118,19 @@ chained_takes uses (b ∷ bs) within =
 settled_stays : (uses : List BlockUse) (head : ℕ) (u : BlockUse) (bs : List ℕ) → is_free u ≡ false → Stays uses (settled uses head u bs)
 settled_stays uses head u [] taken = λ b is. is
 settled_stays uses head u (b ∷ bs) taken =
-    stays_then uses (chained uses (b ∷ bs)) (settled uses head u (b ∷ bs)) (chained_stays uses (b ∷ bs))
-    (set_stays (chained uses (b ∷ bs)) head u taken)
+    stays_then uses (uses_by_chain uses (b ∷ bs)) (settled uses head u (b ∷ bs)) (chained_stays uses (b ∷ bs))
+    (set_stays (uses_by_chain uses (b ∷ bs)) head u taken)
 
 settled_takes : (uses : List BlockUse) (head : ℕ) (u : BlockUse) (bs : List ℕ) → is_free u ≡ false → All (λ b. b < length uses) bs
     → All (λ b. is_used (settled uses head u bs) b ≡ true) bs
 settled_takes uses head u [] taken within = All-nil (λ (b : ℕ). is_used uses b ≡ true)
 settled_takes uses head u (b ∷ bs) taken within =
-    All-weaker (λ (x : ℕ). is_used (chained uses (b ∷ bs)) x ≡ true) (λ (x : ℕ). is_used (settled uses head u (b ∷ bs)) x ≡ true)
-    (λ x is. set_stays (chained uses (b ∷ bs)) head u taken x is) (b ∷ bs) (chained_takes uses (b ∷ bs) within)
+    All-weaker (λ (x : ℕ). is_used (uses_by_chain uses (b ∷ bs)) x ≡ true) (λ (x : ℕ). is_used (settled uses head u (b ∷ bs)) x ≡ true)
+    (λ x is. set_stays (uses_by_chain uses (b ∷ bs)) head u taken x is) (b ∷ bs) (chained_takes uses (b ∷ bs) within)
 
 settled_len : (uses : List BlockUse) (head : ℕ) (u : BlockUse) (bs : List ℕ) → length (settled uses head u bs) ≡ length uses
 settled_len uses head u [] = refl
-settled_len uses head u (b ∷ bs) = length-set (chained uses (b ∷ bs)) head u ∙ chained_len uses (b ∷ bs)
+settled_len uses head u (b ∷ bs) = length-set (uses_by_chain uses (b ∷ bs)) head u ∙ chained_len uses (b ∷ bs)
 
 neither : (x y : Bool) → (x || y) ≡ false → (x ≡ false) × (y ≡ false)
 neither true y is = absurd (cc)
@@ -144,7 +144,7 @@ none_used uses (b ∷ bs) is =
     All-cons (λ (x : ℕ). is_used uses x ≡ false) b bs both.0 (none_used uses bs both.1)
 
 -- what an entry takes
-abbrev pub Takes : List BlockUse → Parent → Fate → Type 0
+abbrev pub Takes : List BlockUse → Parent → FileFate → Type 0
 Takes uses parent f = TakesBlocks uses (uses_behind uses parent f) (fate_blocks f)
 
 module _ (d : Disk) (uses : List BlockUse) (parent : Parent) (head size : ℕ) (disk : IsDisk d) (len : length uses ≡ d.count)
@@ -190,24 +190,24 @@ module _ (d : Disk) (disk : IsDisk d) (differs : ChainsDiffer) where
   takes_kind uses parent Dir body len = takes_none uses
   takes_kind uses parent Super body len = takes_none uses
 
-behind_len : (uses : List BlockUse) (parent : Parent) (f : Fate) → length (uses_behind uses parent f) ≡ length uses
+behind_len : (uses : List BlockUse) (parent : Parent) (f : FileFate) → length (uses_behind uses parent f) ≡ length uses
 behind_len uses parent (In_chain head blocks size) = settled_len uses head (use_of.Head parent size) blocks
 behind_len uses parent _ = refl
 
 module _ (d : Disk) (disk : IsDisk d) (differs : ChainsDiffer) where
   takes_entry : (uses : List BlockUse) (parent : Parent) (e : StoredEntry) → length uses ≡ d.count
-      → TakesBlocks uses (entry_uses d uses parent e) (fate_blocks (fate d uses e))
+      → TakesBlocks uses (uses_by_entry d uses parent e) (fate_blocks (fate d uses e))
   takes_entry uses parent e len = takes_kind d disk differs uses parent e.kind e.body len
 
-  entry_len : (uses : List BlockUse) (parent : Parent) (e : StoredEntry) → length uses ≡ d.count → length (entry_uses d uses parent e) ≡ d.count
+  entry_len : (uses : List BlockUse) (parent : Parent) (e : StoredEntry) → length uses ≡ d.count → length (uses_by_entry d uses parent e) ≡ d.count
   entry_len uses parent e len = behind_len uses parent (fate d uses e) ∙ len
 
   takes_entries : (uses : List BlockUse) (area call index : ℕ) (es : List StoredEntry) → length uses ≡ d.count
       → TakesBlocks uses (entries_uses d uses area call index es) (entries_blocks d uses area call index es)
   takes_entries uses area call index [] len = takes_none uses
   takes_entries uses area call index (e ∷ es) len =
-      let parent : Parent = parent_of area call index in
-      let next : List BlockUse = entry_uses d uses parent e in
+      let parent : Parent = call_parent area call index in
+      let next : List BlockUse = uses_by_entry d uses parent e in
       takes_then uses next (entries_uses d next area call (index + 1) es) (fate_blocks (fate d uses e))
       (entries_blocks d next area call (index + 1) es) (takes_entry uses parent e len)
       (takes_entries next area call (index + 1) es (entry_len uses parent e len))
@@ -216,7 +216,7 @@ module _ (d : Disk) (disk : IsDisk d) (differs : ChainsDiffer) where
       → length (entries_uses d uses area call index es) ≡ d.count
   entries_len uses area call index [] len = len
   entries_len uses area call index (e ∷ es) len =
-      entries_len (entry_uses d uses (parent_of area call index) e) area call (index + 1) es (entry_len uses (parent_of area call index) e len)
+      entries_len (uses_by_entry d uses (call_parent area call index) e) area call (index + 1) es (entry_len uses (call_parent area call index) e len)
 
   takes_found : (uses : List BlockUse) (area call : ℕ) (f : Found) → length uses ≡ d.count
       → TakesBlocks uses (found_uses d uses area call f) (found_blocks d uses area call f)
@@ -240,14 +240,14 @@ chains_apart differs d number uses a disk len = takes_calls d disk differs uses 
 
 -- ---- parts
 
-part_stays : (uses : List BlockUse) (area call : ℕ) (f : Found) → Stays uses (part_uses uses area call f)
+part_stays : (uses : List BlockUse) (area call : ℕ) (f : Found) → Stays uses (uses_by_part uses area call f)
 part_stays uses area call (Part p) =
-    stays_then uses (slice_set uses p.0.0 (use_of.Part area call)) (part_uses uses area call (Part p))
+    stays_then uses (slice_set uses p.0.0 (use_of.Part area call)) (uses_by_part uses area call (Part p))
     (set_stays uses p.0.0 (use_of.Part area call) refl)
     (set_stays (slice_set uses p.0.0 (use_of.Part area call)) p.0.1 (use_of.Part area call) refl)
 part_stays uses area call (Refused fault) = λ b is. is
 
-part_len : (uses : List BlockUse) (area call : ℕ) (f : Found) → length (part_uses uses area call f) ≡ length uses
+part_len : (uses : List BlockUse) (area call : ℕ) (f : Found) → length (uses_by_part uses area call f) ≡ length uses
 part_len uses area call (Part p) =
     length-set (slice_set uses p.0.0 (use_of.Part area call)) p.0.1 (use_of.Part area call) ∙ length-set uses p.0.0 (use_of.Part area call)
 part_len uses area call (Refused fault) = refl
@@ -255,12 +255,12 @@ part_len uses area call (Refused fault) = refl
 parts_stay : (uses : List BlockUse) (area call : ℕ) (fs : List Found) → Stays uses (parts_uses uses area call fs)
 parts_stay uses area call [] = λ b is. is
 parts_stay uses area call (f ∷ fs) =
-    stays_then uses (part_uses uses area call f) (parts_uses uses area call (f ∷ fs)) (part_stays uses area call f)
-    (parts_stay (part_uses uses area call f) area (call + 1) fs)
+    stays_then uses (uses_by_part uses area call f) (parts_uses uses area call (f ∷ fs)) (part_stays uses area call f)
+    (parts_stay (uses_by_part uses area call f) area (call + 1) fs)
 
 parts_len : (uses : List BlockUse) (area call : ℕ) (fs : List Found) → length (parts_uses uses area call fs) ≡ length uses
 parts_len uses area call [] = refl
-parts_len uses area call (f ∷ fs) = parts_len (part_uses uses area call f) area (call + 1) fs ∙ part_len uses area call f
+parts_len uses area call (f ∷ fs) = parts_len (uses_by_part uses area call f) area (call + 1) fs ∙ part_len uses area call f
 
 areas_stay : (uses : List BlockUse) (area : ℕ) (areas : List Area) → Stays uses (areas_uses uses area areas)
 areas_stay uses area [] = λ b is. is
@@ -276,7 +276,7 @@ both_stay : (old new : List BlockUse) (p : Pair × StoredPart) → Stays old new
 both_stay old new p stays both = (stays p.0.0 both.0, stays p.0.1 both.1)
 
 part_used : (uses : List BlockUse) (area call : ℕ) (p : Pair × StoredPart) → p.0.0 < length uses → p.0.1 < length uses
-    → BothUsed (part_uses uses area call (Part p)) p
+    → BothUsed (uses_by_part uses area call (Part p)) p
 part_used uses area call p first second =
     let mid : List BlockUse = slice_set uses p.0.0 (use_of.Part area call) in
     let len : length mid ≡ length uses = length-set uses p.0.0 (use_of.Part area call) in (
@@ -288,11 +288,11 @@ parts_used : (uses : List BlockUse) (area call : ℕ) (fs : List Found) (j : ℕ
     → p.0.0 < length uses → p.0.1 < length uses → BothUsed (parts_uses uses area call fs) p
 parts_used uses area call [] j p is first second = absurd (none-some (Part p) is)
 parts_used uses area call (f ∷ fs) zero p is first second =
-    both_stay (part_uses uses area call f) (parts_uses uses area call (f ∷ fs)) p (parts_stay (part_uses uses area call f) area (call + 1) fs)
-    (subst (λ (g : Found). BothUsed (part_uses uses area call g) p) (sym (same_Some f (Part p) is)) (part_used uses area call p first second))
+    both_stay (uses_by_part uses area call f) (parts_uses uses area call (f ∷ fs)) p (parts_stay (uses_by_part uses area call f) area (call + 1) fs)
+    (subst (λ (g : Found). BothUsed (uses_by_part uses area call g) p) (sym (same_Some f (Part p) is)) (part_used uses area call p first second))
 parts_used uses area call (f ∷ fs) (suc j) p is first second =
     let len = part_len uses area call f in
-    parts_used (part_uses uses area call f) area (call + 1) fs j p is (rw len first) (rw len second)
+    parts_used (uses_by_part uses area call f) area (call + 1) fs j p is (rw len first) (rw len second)
 
 areas_used : (uses : List BlockUse) (area : ℕ) (areas : List Area) (i j : ℕ) (a : Area) (p : Pair × StoredPart) → slice_get areas i ≡ Some a
     → slice_get a.found.items j ≡ Some (Part p) → p.0.0 < length uses → p.0.1 < length uses → BothUsed (areas_uses uses area areas) p

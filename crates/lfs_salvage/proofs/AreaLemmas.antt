@@ -8,7 +8,7 @@ use Rattle.lfs_host.specs.NewFolder.{Made, Makes}
 use Rattle.lfs_meta.specs.Body.{Pair}
 use Rattle.lfs_meta.specs.Entry.{StoredEntry}
 use Rattle.lfs_meta.specs.Part.{StoredPart}
-use Rattle.lfs_salvage.specs.AreaMade.{call_made, calls_made, calls_unsaved, calls_uses, entries_made, entries_unsaved, entries_uses, entry_made, entry_uses, folder_made, folder_of, found_made, found_unsaved, found_uses, parent_of}
+use Rattle.lfs_salvage.specs.AreaMade.{call_made, calls_made, calls_unsaved, calls_uses, entries_made, entries_unsaved, entries_uses, entry_made, uses_by_entry, folder_made, folder_of, found_made, found_unsaved, found_uses, call_parent}
 use Rattle.lfs_salvage.specs.Fate.{fate}
 use Rattle.lfs_salvage.specs.Folder.{folder_at, way_at}
 use Rattle.lfs_salvage.specs.Numbered.{Numbered}
@@ -128,12 +128,12 @@ entries_plan d folder block uses area call index es numbered = record {
 pub entries_more : (d : Disk) (folder : List ℕ) (block : ℕ) (uses : List BlockUse) (area call i : ℕ) (es : List StoredEntry)
     (e : StoredEntry) (n : Bool) (rest : List Bool) → i < length es → e ≡ get_or es i e
     → entries_plan d folder block uses area call i (drop i es) (n ∷ rest)
-    ≡ plan_then (entry_made d folder n block i uses e) (unsaved (parent_of area call i) (fate d uses e))
-    (entries_plan d folder block (entry_uses d uses (parent_of area call i) e) area call (i + 1) (drop (i + 1) es) rest)
+    ≡ plan_then (entry_made d folder n block i uses e) (unsaved (call_parent area call i) (fate d uses e))
+    (entries_plan d folder block (uses_by_entry d uses (call_parent area call i) e) area call (i + 1) (drop (i + 1) es) rest)
 entries_more d folder block uses area call i es e n rest within is =
     at_drop_more (λ (xs : List StoredEntry). entries_plan d folder block uses area call i xs (n ∷ rest)) es i e within
-    ∙ ap (λ (x : StoredEntry). plan_then (entry_made d folder n block i uses x) (unsaved (parent_of area call i) (fate d uses x))
-    (entries_plan d folder block (entry_uses d uses (parent_of area call i) x) area call (i + 1) (drop (i + 1) es) rest)) (sym is)
+    ∙ ap (λ (x : StoredEntry). plan_then (entry_made d folder n block i uses x) (unsaved (call_parent area call i) (fate d uses x))
+    (entries_plan d folder block (uses_by_entry d uses (call_parent area call i) x) area call (i + 1) (drop (i + 1) es) rest)) (sym is)
 
 -- ---- calls
 

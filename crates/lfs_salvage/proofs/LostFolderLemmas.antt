@@ -7,7 +7,7 @@ use Rattle.std.specs.Prelude.{All}
 use Rattle.lfs_extract.proofs.HostNameLemmas.{all_pass}
 use Rattle.lfs_extract.specs.HostNames.{IsHostName}
 use Rattle.lfs_host.specs.NewFolder.{Made}
-use Rattle.lfs_salvage.specs.Below.{IsBelow, IsNameBelow, MakesBelow, name_made}
+use Rattle.lfs_salvage.specs.Below.{IsMadeBelow, IsNameBelow, MakesBelow, name_made}
 use Rattle.lfs_salvage.specs.Lost.{area_folder, first_block, lost_name, lost_word, tildes_in}
 use Rattle.lfs_salvage.specs.Saved.{lost_of, root_found}
 use Rattle.lfs_salvage.proofs.NumberLemmas.{decimal_word}
@@ -51,5 +51,5 @@ pub made_below : (top folder : List ℕ) (old new : Option (List Made)) → IsNa
 made_below top folder old new is m = record {
   more = m.more;
   made = m.made;
-  below = All-weaker (IsBelow folder) (IsBelow top) (λ one there. below_below top folder (name_made one) is there) m.more m.below;
+  below = All-weaker (IsMadeBelow folder) (IsMadeBelow top) (λ one there. below_below top folder (name_made one) is there) m.more m.below;
 }

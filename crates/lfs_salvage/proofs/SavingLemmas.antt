@@ -7,7 +7,7 @@ use Rattle.lfs_extract.specs.declared.extract_fault.ExtractFault.{ExtractFault}
 use Rattle.lfs_extract.specs.declared.extract_fault.ExtractFault.TheVariants.{Memory, HostName, CannotWrite}
 use Rattle.lfs_extract.proofs.MakingLemmas.{IsOnWay, makes_nothing, makes_then, on_way}
 use Rattle.lfs_host.specs.NewFolder.{Made, Makes}
-use Rattle.lfs_salvage.specs.Below.{IsBelow, MakesBelow}
+use Rattle.lfs_salvage.specs.Below.{IsMadeBelow, MakesBelow}
 use Rattle.lfs_salvage.specs.Saving.{MakesFirst, Saves, Stops}
 
 -- ---- in front of the rest
@@ -72,17 +72,17 @@ module _ (top : List ℕ) where
   nothing_below old new same = record {
     more = [];
     made = subst (λ (x : Option (List Made)). Makes old x []) (sym same) (makes_nothing old);
-    below = All-nil (IsBelow top);
+    below = All-nil (IsMadeBelow top);
   }
 
-  pub one_below : (old new : Option (List Made)) (one : Made) → IsBelow top one → Makes old new (one ∷ []) → MakesBelow top old new
-  one_below old new one is made = record { more = one ∷ []; made = made; below = All-cons (IsBelow top) one [] is (All-nil (IsBelow top)) }
+  pub one_below : (old new : Option (List Made)) (one : Made) → IsMadeBelow top one → Makes old new (one ∷ []) → MakesBelow top old new
+  one_below old new one is made = record { more = one ∷ []; made = made; below = All-cons (IsMadeBelow top) one [] is (All-nil (IsMadeBelow top)) }
 
   pub below_then : (a b c : Option (List Made)) → MakesBelow top a b → MakesBelow top b c → MakesBelow top a c
   below_then a b c p q = record {
     more = p.more ++ q.more;
     made = makes_then a b c p.more q.more p.made q.made;
-    below = All-append (IsBelow top) p.more q.more p.below q.below;
+    below = All-append (IsMadeBelow top) p.more q.more p.below q.below;
   }
 
 -- ---- what is answered

@@ -15,7 +15,7 @@ use Rattle.lfs_fs.proofs.ContainsLemmas.{contains_later}
 use Rattle.lfs_meta.specs.declared.kind.Kind.{Kind}
 use Rattle.lfs_meta.specs.declared.kind.Kind.TheVariants.{File, Dir, Super}
 use Rattle.lfs_salvage.specs.Fate.{In_chain, Elsewhere, Lost, chain_fate, head_fate, is_free, is_used, kind_fate, saved_bytes}
-use Rattle.lfs_salvage.specs.Shown.{IsLostFor, LostHaveACause, SavedAreShown, Shows}
+use Rattle.lfs_salvage.specs.Shown.{IsLostFor, LostHaveACause, SavedAreShown, ShowsBody}
 use Rattle.lfs_salvage.specs.declared.block_use.BlockUse.{BlockUse}
 use Rattle.lfs_salvage.specs.declared.block_use.BlockUse.TheVariants as use_of
 use Rattle.lfs_salvage.specs.declared.parent.Parent.{Parent}
@@ -24,22 +24,22 @@ use Rattle.lfs_salvage.specs.declared.parent.Parent.{Parent}
 
 module _ (d : Disk) (uses : List BlockUse) (head size : ℕ) where
   saved_any : (t : Bool) (blocks bytes : List ℕ) → chain_of d head size ≡ Some blocks
-      → saved_bytes d (Chain head size) (if t then Lost BlockTwice else In_chain head blocks size) ≡ Some bytes → Shows d (Chain head size) bytes
+      → saved_bytes d (Chain head size) (if t then Lost BlockTwice else In_chain head blocks size) ≡ Some bytes → ShowsBody d (Chain head size) bytes
   saved_any true blocks bytes is saved = absurd (none-some bytes saved)
   saved_any false blocks bytes is saved = (blocks, is, sym (same_Some (content d size blocks) bytes saved))
 
   saved_chain : (o : Option (List ℕ)) (bytes : List ℕ) → chain_of d head size ≡ o
-      → saved_bytes d (Chain head size) (chain_fate uses head size o) ≡ Some bytes → Shows d (Chain head size) bytes
+      → saved_bytes d (Chain head size) (chain_fate uses head size o) ≡ Some bytes → ShowsBody d (Chain head size) bytes
   saved_chain None bytes is saved = absurd (none-some bytes saved)
   saved_chain (Some blocks) bytes is saved = saved_any (list_any (is_used uses) blocks) blocks bytes is saved
 
   saved_same : (t : Bool) (parent : Parent) (bytes : List ℕ)
-      → saved_bytes d (Chain head size) (if t then Elsewhere parent else Lost BlockTwice) ≡ Some bytes → Shows d (Chain head size) bytes
+      → saved_bytes d (Chain head size) (if t then Elsewhere parent else Lost BlockTwice) ≡ Some bytes → ShowsBody d (Chain head size) bytes
   saved_same true parent bytes saved = absurd (none-some bytes saved)
   saved_same false parent bytes saved = absurd (none-some bytes saved)
 
   saved_head : (u : BlockUse) (bytes : List ℕ) → saved_bytes d (Chain head size) (head_fate d uses head size u) ≡ Some bytes
-      → Shows d (Chain head size) bytes
+      → ShowsBody d (Chain head size) bytes
   saved_head use_of.Free bytes saved = saved_chain (chain_of d head size) bytes refl saved
   saved_head (use_of.Part area call) bytes saved = absurd (none-some bytes saved)
   saved_head use_of.Chain bytes saved = absurd (none-some bytes saved)
@@ -47,7 +47,7 @@ module _ (d : Disk) (uses : List BlockUse) (head size : ℕ) where
 
   saved_size : EmptyIsFound → (t : Bool) (bytes : List ℕ) → (size == 0) ≡ t
       → saved_bytes d (Chain head size) (if t then In_chain head [] size else head_fate d uses head size (slice_index_or uses head use_of.Free))
-      ≡ Some bytes → Shows d (Chain head size) bytes
+      ≡ Some bytes → ShowsBody d (Chain head size) bytes
   saved_size empty true bytes is saved = (
     [],
     ap (chain_of d head) (eqb-true size 0 is) ∙ empty d head,
@@ -56,7 +56,7 @@ module _ (d : Disk) (uses : List BlockUse) (head size : ℕ) where
   saved_size empty false bytes is saved = saved_head (slice_index_or uses head use_of.Free) bytes saved
 
 saved_by : EmptyIsFound → (d : Disk) (uses : List BlockUse) (kind : Kind) (body : StoredBody) (bytes : List ℕ)
-    → saved_bytes d body (kind_fate d uses kind body) ≡ Some bytes → (kind ≡ File) × Shows d body bytes
+    → saved_bytes d body (kind_fate d uses kind body) ≡ Some bytes → (kind ≡ File) × ShowsBody d body bytes
 saved_by empty d uses File (Inline stored) bytes saved = (refl, sym (same_Some stored bytes saved))
 saved_by empty d uses File (Chain head size) bytes saved = (refl, saved_size d uses head size empty (size == 0) bytes refl saved)
 saved_by empty d uses File (Directory_at first second) bytes saved = absurd (none-some bytes saved)

@@ -18,7 +18,7 @@ use Rattle.lfs_listing.specs.Listing.{shown_byte}
 use Rattle.lfs_meta.specs.Name.{Name, IsName, is_name}
 use Rattle.lfs_meta.proofs.NameLemmas.{is_name-decides}
 use Rattle.lfs_salvage.specs.Below.{IsNameBelow}
-use Rattle.lfs_salvage.specs.Word.{is_own_word, other_word, word}
+use Rattle.lfs_salvage.specs.Word.{is_own_word, other_word, host_word}
 
 -- ---- bytes as they are shown
 
@@ -109,7 +109,7 @@ long_shown n some = by (flat_map shown_byte n) refl where
 
 -- ---- words
 
--- what is UTF-8 is its own word where it is a host's name, and nothing else is
+-- what is UTF-8 is its own host_word where it is a host's name, and nothing else is
 pub is_own : (n : Name) → is_host_name n ≡ true → IsUtf8 n → is_own_word n ≡ true
 is_own n is text = let also = is_utf8-from_IsUtf8 n text in rw (is, also) refl
 
@@ -153,8 +153,8 @@ other_is_host n small = by (is_name n) refl where
   by true is = shown_word n small ((is_name-decides n).0 is)
   by false is = tilde_word
 
--- each word is one that a host can have
-pub word_is_host : (n : Name) → AreSmall n → IsHostName (word n)
+-- each host_word is one that a host can have
+pub word_is_host : (n : Name) → AreSmall n → IsHostName (host_word n)
 word_is_host n small = by (is_own_word n) refl where
   by : (t : Bool) → is_own_word n ≡ t → IsHostName (if t then n else other_word n)
   by true is =

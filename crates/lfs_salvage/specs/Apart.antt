@@ -4,8 +4,8 @@ use Rattle.lfs_block.specs.Disk.{Disk, IsDisk}
 use Rattle.lfs_meta.specs.Body.{Pair}
 use Rattle.lfs_meta.specs.Entry.{StoredEntry}
 use Rattle.lfs_meta.specs.Part.{StoredPart}
-use Rattle.lfs_salvage.specs.AreaMade.{area_uses, entry_uses, found_uses, parent_of}
-use Rattle.lfs_salvage.specs.Fate.{Fate, In_entry, In_chain, Elsewhere, Passed, Lost, fate, is_used}
+use Rattle.lfs_salvage.specs.AreaMade.{area_uses, uses_by_entry, found_uses, call_parent}
+use Rattle.lfs_salvage.specs.Fate.{FileFate, In_entry, In_chain, Elsewhere, Passed, Lost, fate, is_used}
 use Rattle.lfs_salvage.specs.PartsUsed.{uses_at_first}
 use Rattle.lfs_salvage.specs.declared.block_use.BlockUse.{BlockUse}
 use Rattle.lfs_survey.specs.declared.area.Area.{Area}
@@ -13,7 +13,7 @@ use Rattle.lfs_survey.specs.declared.found.Found.{Found}
 use Rattle.lfs_survey.specs.declared.found.Found.TheVariants.{Part, Refused}
 
 -- the blocks of the chain that is saved
-abbrev pub fate_blocks : Fate → List ℕ
+abbrev pub fate_blocks : FileFate → List ℕ
 fate_blocks In_entry = []
 fate_blocks (In_chain head blocks size) = blocks
 fate_blocks (Elsewhere parent) = []
@@ -24,7 +24,7 @@ fate_blocks (Lost fault) = []
 abbrev pub entries_blocks : Disk → List BlockUse → ℕ → ℕ → ℕ → List StoredEntry → List ℕ
 entries_blocks d uses area call index [] = []
 entries_blocks d uses area call index (e ∷ es) =
-    fate_blocks (fate d uses e) ++ entries_blocks d (entry_uses d uses (parent_of area call index) e) area call (index + 1) es
+    fate_blocks (fate d uses e) ++ entries_blocks d (uses_by_entry d uses (call_parent area call index) e) area call (index + 1) es
 
 abbrev pub found_blocks : Disk → List BlockUse → ℕ → ℕ → Found → List ℕ
 found_blocks d uses area call (Part p) = entries_blocks d uses area call 0 p.1.entries

@@ -6,7 +6,7 @@ use Rattle.lfs_host.specs.NewFolder.{Made, FolderMade, FileMade}
 use Rattle.lfs_meta.specs.Entry.{StoredEntry}
 use Rattle.lfs_salvage.specs.Fate.{fate, saved_bytes, uses_behind}
 use Rattle.lfs_salvage.specs.Folder.{call_folder, way_at}
-use Rattle.lfs_salvage.specs.Numbered.{Numbered, first_call, first_entry, later_calls, later_entries}
+use Rattle.lfs_salvage.specs.Numbered.{Numbered, first_call, is_root_first, later_calls, later_entries}
 use Rattle.lfs_salvage.specs.Unsaved.{unsaved}
 use Rattle.lfs_salvage.specs.Word.{entry_word}
 use Rattle.lfs_salvage.specs.declared.block_use.BlockUse.{BlockUse}
@@ -20,8 +20,8 @@ use Rattle.lfs_survey.specs.declared.way.Way.TheVariants.{Start, Entry, Next}
 
 -- ---- of entries
 
-abbrev pub parent_of : ℕ → ℕ → ℕ → Parent
-parent_of area call entry = record { area = area; call = call; entry = entry }
+abbrev pub call_parent : ℕ → ℕ → ℕ → Parent
+call_parent area call entry = record { area = area; call = call; entry = entry }
 
 -- a file with these bytes, where there are some
 abbrev pub file_made : List ℕ → Option (List ℕ) → List Made
@@ -34,26 +34,26 @@ entry_made d folder numbered block index uses e =
     file_made (name_in folder (entry_word numbered block index e.name)) (saved_bytes d e.body (fate d uses e))
 
 -- what blocks are used for behind it
-abbrev pub entry_uses : Disk → List BlockUse → Parent → StoredEntry → List BlockUse
-entry_uses d uses parent e = uses_behind uses parent (fate d uses e)
+abbrev pub uses_by_entry : Disk → List BlockUse → Parent → StoredEntry → List BlockUse
+uses_by_entry d uses parent e = uses_behind uses parent (fate d uses e)
 
 -- those of entries, of which the first has this number: each behind the ones before it
 abbrev pub entries_made : Disk → List ℕ → List Bool → ℕ → List BlockUse → ℕ → ℕ → ℕ → List StoredEntry → List Made
 entries_made d folder numbered block uses area call index [] = []
 entries_made d folder numbered block uses area call index (e ∷ es) =
-    entry_made d folder (first_entry numbered) block index uses e
-    ++ entries_made d folder (later_entries numbered) block (entry_uses d uses (parent_of area call index) e) area call (index + 1) es
+    entry_made d folder (is_root_first numbered) block index uses e
+    ++ entries_made d folder (later_entries numbered) block (uses_by_entry d uses (call_parent area call index) e) area call (index + 1) es
 
 abbrev pub entries_uses : Disk → List BlockUse → ℕ → ℕ → ℕ → List StoredEntry → List BlockUse
 entries_uses d uses area call index [] = uses
 entries_uses d uses area call index (e ∷ es) =
-    entries_uses d (entry_uses d uses (parent_of area call index) e) area call (index + 1) es
+    entries_uses d (uses_by_entry d uses (call_parent area call index) e) area call (index + 1) es
 
 abbrev pub entries_unsaved : Disk → List BlockUse → ℕ → ℕ → ℕ → List StoredEntry → List Unsaved
 entries_unsaved d uses area call index [] = []
 entries_unsaved d uses area call index (e ∷ es) =
-    unsaved (parent_of area call index) (fate d uses e)
-    ++ entries_unsaved d (entry_uses d uses (parent_of area call index) e) area call (index + 1) es
+    unsaved (call_parent area call index) (fate d uses e)
+    ++ entries_unsaved d (uses_by_entry d uses (call_parent area call index) e) area call (index + 1) es
 
 -- ---- of what is found
 

@@ -16,11 +16,11 @@ abbrev pub IsNameBelow : List ℕ → List ℕ → Type 0
 IsNameBelow base name = (path : Path) × All IsHostName path × (name ≡ host_name base path)
 
 -- what is made is the folder itself, or below it
-abbrev pub IsBelow : List ℕ → Made → Type 0
-IsBelow base m = IsNameBelow base (name_made m)
+abbrev pub IsMadeBelow : List ℕ → Made → Type 0
+IsMadeBelow base m = IsNameBelow base (name_made m)
 
 -- all that is made is
 pub record MakesBelow (base : List ℕ) (old new : Option (List Made)) : Type 0 where
   pub more : List Made
   pub made : Makes old new more
-  pub below : All (IsBelow base) more
+  pub below : All (IsMadeBelow base) more

@@ -16,12 +16,12 @@ use Rattle.lfs_salvage.specs.declared.parent.Parent.{Parent}
 
 -- a file that is saved, of the bytes in its entry or of a chain; one that is saved already, elsewhere; what is no file; or a file that isn't
 -- saved, for this
-pub data Fate : Type 0 where
-  In_entry : Fate
-  In_chain : (head : ℕ) (blocks : List ℕ) (size : ℕ) → Fate
-  Elsewhere : (parent : Parent) → Fate
-  Passed : Fate
-  Lost : (fault : MountFault) → Fate
+pub data FileFate : Type 0 where
+  In_entry : FileFate
+  In_chain : (head : ℕ) (blocks : List ℕ) (size : ℕ) → FileFate
+  Elsewhere : (parent : Parent) → FileFate
+  Passed : FileFate
+  Lost : (fault : MountFault) → FileFate
 
 -- ---- blocks in use
 
@@ -38,37 +38,37 @@ is_used uses b = not (is_free (slice_index_or uses b use_of.Free))
 -- ---- files
 
 -- a file with a chain is saved where none of the chain's blocks is in use; one without isn't
-abbrev pub chain_fate : List BlockUse → ℕ → ℕ → Option (List ℕ) → Fate
+abbrev pub chain_fate : List BlockUse → ℕ → ℕ → Option (List ℕ) → FileFate
 chain_fate uses head size None = Lost BadSkipList
 chain_fate uses head size (Some blocks) = if list_any (is_used uses) blocks then Lost BlockTwice else In_chain head blocks size
 
 -- by what its head is used for: as the head of a file of as many bytes it is saved already
-abbrev pub head_fate : Disk → List BlockUse → ℕ → ℕ → BlockUse → Fate
+abbrev pub head_fate : Disk → List BlockUse → ℕ → ℕ → BlockUse → FileFate
 head_fate d uses head size use_of.Free = chain_fate uses head size (chain_of d head size)
 head_fate d uses head size (use_of.Part area call) = Lost BlockTwice
 head_fate d uses head size use_of.Chain = Lost BlockTwice
 head_fate d uses head size (use_of.Head parent long) = if long == size then Elsewhere parent else Lost BlockTwice
 
 -- a file of no bytes has no blocks
-abbrev pub body_fate : Disk → List BlockUse → StoredBody → Fate
+abbrev pub body_fate : Disk → List BlockUse → StoredBody → FileFate
 body_fate d uses (Inline bytes) = In_entry
 body_fate d uses (Chain head size) =
     if size == 0 then In_chain head [] size else head_fate d uses head size (slice_index_or uses head use_of.Free)
 body_fate d uses (Directory_at first second) = Passed
 
-abbrev pub kind_fate : Disk → List BlockUse → Kind → StoredBody → Fate
+abbrev pub kind_fate : Disk → List BlockUse → Kind → StoredBody → FileFate
 kind_fate d uses File body = body_fate d uses body
 kind_fate d uses Dir body = Passed
 kind_fate d uses Super body = Passed
 
 -- what becomes of an entry where blocks are used so
-abbrev pub fate : Disk → List BlockUse → StoredEntry → Fate
+abbrev pub fate : Disk → List BlockUse → StoredEntry → FileFate
 fate d uses e = kind_fate d uses e.kind e.body
 
 -- ---- what is saved
 
 -- the bytes that are saved of an entry, where a file is
-abbrev pub saved_bytes : Disk → StoredBody → Fate → Option (List ℕ)
+abbrev pub saved_bytes : Disk → StoredBody → FileFate → Option (List ℕ)
 saved_bytes d (Inline bytes) In_entry = Some bytes
 saved_bytes d (Chain head size) In_entry = None
 saved_bytes d (Directory_at first second) In_entry = None
@@ -78,17 +78,17 @@ saved_bytes d body Passed = None
 saved_bytes d body (Lost fault) = None
 
 -- blocks become a chain's
-abbrev pub chained : List BlockUse → List ℕ → List BlockUse
-chained uses [] = uses
-chained uses (b ∷ bs) = chained (slice_set uses b use_of.Chain) bs
+abbrev pub uses_by_chain : List BlockUse → List ℕ → List BlockUse
+uses_by_chain uses [] = uses
+uses_by_chain uses (b ∷ bs) = uses_by_chain (slice_set uses b use_of.Chain) bs
 
 -- so do those of a file that is saved, whose head then has its place and its length; one of no bytes has none
 abbrev pub settled : List BlockUse → ℕ → BlockUse → List ℕ → List BlockUse
 settled uses head as_head [] = uses
-settled uses head as_head (b ∷ bs) = slice_set (chained uses (b ∷ bs)) head as_head
+settled uses head as_head (b ∷ bs) = slice_set (uses_by_chain uses (b ∷ bs)) head as_head
 
 -- what blocks are used for behind an entry that stands here
-abbrev pub uses_behind : List BlockUse → Parent → Fate → List BlockUse
+abbrev pub uses_behind : List BlockUse → Parent → FileFate → List BlockUse
 uses_behind uses parent In_entry = uses
 uses_behind uses parent (In_chain head blocks size) = settled uses head (use_of.Head parent size) blocks
 uses_behind uses parent (Elsewhere other) = uses
@@ -96,7 +96,7 @@ uses_behind uses parent Passed = uses
 uses_behind uses parent (Lost fault) = uses
 
 -- the blocks of a chain are the disk's, and no more than it has
-abbrev pub HasFileBlocks : Disk → Fate → Type 0
+abbrev pub HasFileBlocks : Disk → FileFate → Type 0
 HasFileBlocks d In_entry = Unit {0}
 HasFileBlocks d (In_chain head blocks size) = All (λ b. b < d.count) blocks × (length blocks ≤ d.count)
 HasFileBlocks d (Elsewhere parent) = Unit {0}

@@ -24,8 +24,8 @@ abbrev pub found_block : Found → ℕ
 found_block (Part p) = p.0.0
 found_block (Refused fault) = 0
 
-abbrev pub block_at : List Found → ℕ → ℕ
-block_at found from = unwrap_or (option_map found_block (slice_get found from)) 0
+abbrev pub block_of_found : List Found → ℕ → ℕ
+block_of_found found from = unwrap_or (option_map found_block (slice_get found from)) 0
 
 -- how the call of this number is come to; it is begun with where there is no such call
 abbrev pub way_at : List Call → ℕ → Way
@@ -36,7 +36,7 @@ way_at calls call = unwrap_or (option_map (λ c. c.way) (slice_get calls call)) 
 abbrev pub folder_at : List ℕ → List Found → List (List ℕ) → Bool → Way → List ℕ
 folder_at base found folders numbered Start = base
 folder_at base found folders numbered (Entry from index) =
-    name_in (slice_index_or folders from base) (entry_word numbered (block_at found from) index (name_at found from index))
+    name_in (slice_index_or folders from base) (entry_word numbered (block_of_found found from) index (name_at found from index))
 folder_at base found folders numbered (Next from) = slice_index_or folders from base
 
 -- that of a pair that isn't read is the area's own

@@ -26,14 +26,14 @@ is_part_of (Some (Part p)) pair = are_same p.0 pair
 is_part_of (Some (Refused fault)) pair = false
 
 -- what is found at a call of an area
-abbrev pub found_at : Option Area → ℕ → Option Found
-found_at None call = None
-found_at (Some a) call = slice_get a.found.items call
+abbrev pub found_at_call : Option Area → ℕ → Option Found
+found_at_call None call = None
+found_at_call (Some a) call = slice_get a.found.items call
 
 -- its first block is in use for the part that is found at the pair, so that this is saved under another name
 abbrev pub is_saved_at : List Area → BlockUse → Pair → Bool
 is_saved_at areas use_of.Free pair = false
-is_saved_at areas (use_of.Part area call) pair = is_part_of (found_at (slice_get areas area) call) pair
+is_saved_at areas (use_of.Part area call) pair = is_part_of (found_at_call (slice_get areas area) call) pair
 is_saved_at areas use_of.Chain pair = false
 is_saved_at areas (use_of.Head parent size) pair = false
 
@@ -47,14 +47,14 @@ is_lost areas uses pair (Part p) = false
 is_lost areas uses pair (Refused fault) = is_lost_for fault (is_saved_at areas (slice_index_or uses pair.0 use_of.Free) pair)
 
 -- the pair of the call of this number; that of the root where there is no such call
-abbrev pub pair_at : List Call → ℕ → Pair
-pair_at calls call = unwrap_or (option_map (λ c. c.pair) (slice_get calls call)) (0, 0)
+abbrev pub call_pair : List Call → ℕ → Pair
+call_pair calls call = unwrap_or (option_map (λ c. c.pair) (slice_get calls call)) (0, 0)
 
 -- one of these is, of which the first is found at the call of this number
 abbrev pub losses_from : List Area → List BlockUse → List Call → ℕ → List Found → Bool
 losses_from areas uses calls call [] = false
 losses_from areas uses calls call (f ∷ fs) =
-    is_lost areas uses (pair_at calls call) f || losses_from areas uses calls (call + 1) fs
+    is_lost areas uses (call_pair calls call) f || losses_from areas uses calls (call + 1) fs
 
 -- a file isn't saved, under no name
 abbrev pub is_file_lost : Why → Bool

@@ -8,9 +8,9 @@ pub record Numbered : Type 0 where
 
 -- where a list of them ends, none has
 
-abbrev pub first_entry : List Bool → Bool
-first_entry [] = false
-first_entry (b ∷ bs) = b
+abbrev pub is_root_first : List Bool → Bool
+is_root_first [] = false
+is_root_first (b ∷ bs) = b
 
 abbrev pub later_entries : List Bool → List Bool
 later_entries [] = []

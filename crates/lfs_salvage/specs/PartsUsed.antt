@@ -7,14 +7,14 @@ use Rattle.lfs_survey.specs.declared.found.Found.{Found}
 use Rattle.lfs_survey.specs.declared.found.Found.TheVariants.{Part, Refused}
 
 -- the blocks of a part that is found at a call of an area are its
-abbrev pub part_uses : List BlockUse → ℕ → ℕ → Found → List BlockUse
-part_uses uses area call (Part p) = slice_set (slice_set uses p.0.0 (use_of.Part area call)) p.0.1 (use_of.Part area call)
-part_uses uses area call (Refused fault) = uses
+abbrev pub uses_by_part : List BlockUse → ℕ → ℕ → Found → List BlockUse
+uses_by_part uses area call (Part p) = slice_set (slice_set uses p.0.0 (use_of.Part area call)) p.0.1 (use_of.Part area call)
+uses_by_part uses area call (Refused fault) = uses
 
 -- and so are those of all that is found, of which the first has this number
 abbrev pub parts_uses : List BlockUse → ℕ → ℕ → List Found → List BlockUse
 parts_uses uses area call [] = uses
-parts_uses uses area call (f ∷ fs) = parts_uses (part_uses uses area call f) area (call + 1) fs
+parts_uses uses area call (f ∷ fs) = parts_uses (uses_by_part uses area call f) area (call + 1) fs
 
 -- in areas, of which the first has this number
 abbrev pub areas_uses : List BlockUse → ℕ → List Area → List BlockUse

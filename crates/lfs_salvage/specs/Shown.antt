@@ -12,15 +12,15 @@ use Rattle.lfs_salvage.specs.Fate.{Lost, fate, is_used, saved_bytes}
 use Rattle.lfs_salvage.specs.declared.block_use.BlockUse.{BlockUse}
 
 -- what a file's body says that it has: its bytes, or the contents of its chain
-abbrev pub Shows : Disk → StoredBody → List ℕ → Type 0
-Shows d (Inline stored) bytes = bytes ≡ stored
-Shows d (Chain head size) bytes = (blocks : List ℕ) × (chain_of d head size ≡ Some blocks) × (bytes ≡ content d size blocks)
-Shows d (Directory_at first second) bytes = ⊥
+abbrev pub ShowsBody : Disk → StoredBody → List ℕ → Type 0
+ShowsBody d (Inline stored) bytes = bytes ≡ stored
+ShowsBody d (Chain head size) bytes = (blocks : List ℕ) × (chain_of d head size ≡ Some blocks) × (bytes ≡ content d size blocks)
+ShowsBody d (Directory_at first second) bytes = ⊥
 
 -- the law: what is saved of an entry is a file's, and has the bytes that its body says
 abbrev pub SavedAreShown : Type 0
 SavedAreShown = (d : Disk) (uses : List BlockUse) (e : StoredEntry) (bytes : List ℕ) → saved_bytes d e.body (fate d uses e) ≡ Some bytes
-    → (e.kind ≡ File) × Shows d e.body bytes
+    → (e.kind ≡ File) × ShowsBody d e.body bytes
 
 -- why a file isn't saved: it has no chain, or its last block is in use, or another one of its chain
 abbrev pub IsLostFor : Disk → List BlockUse → MountFault → StoredBody → Type 0

@@ -1,12 +1,12 @@
 -- Files that aren't saved (own).
 use Rattle.std.specs.Prelude.{List, [], ◌∷◌}
-use Rattle.lfs_salvage.specs.Fate.{Fate, In_entry, In_chain, Elsewhere, Passed, Lost}
+use Rattle.lfs_salvage.specs.Fate.{FileFate, In_entry, In_chain, Elsewhere, Passed, Lost}
 use Rattle.lfs_salvage.specs.declared.parent.Parent.{Parent}
 use Rattle.lfs_salvage.specs.declared.unsaved.Unsaved.{Unsaved}
 use Rattle.lfs_salvage.specs.declared.unsaved.Why.TheVariants as why
 
 -- an entry that stands here, whose file isn't saved, and why
-abbrev pub unsaved : Parent → Fate → List Unsaved
+abbrev pub unsaved : Parent → FileFate → List Unsaved
 unsaved parent In_entry = []
 unsaved parent (In_chain head blocks size) = []
 unsaved parent (Elsewhere other) = record { parent = parent; why = why.Elsewhere other } ∷ []

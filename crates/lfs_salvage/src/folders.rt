@@ -6,7 +6,7 @@ ghost use Rattle.lfs_host.specs.NewFolder.{FolderMade};
 ghost use Rattle.lfs_host.specs.Scene.{HasRefused, KeepsFiles};
 ghost use Rattle.lfs_salvage.specs.AreaMade.{folder_made};
 ghost use Rattle.lfs_salvage.specs.Below.{IsNameBelow, MakesBelow};
-ghost use Rattle.lfs_salvage.specs.Folder.{block_at, folder_at, name_at, way_at};
+ghost use Rattle.lfs_salvage.specs.Folder.{block_of_found, folder_at, name_at, way_at};
 ghost use Rattle.lfs_salvage.specs.Saving.{Saves};
 
 use crate::entry_name::EntryName;
@@ -31,7 +31,7 @@ fn name_at(found: &[Found], from: usize, index: usize) -> &[u8]
 
 /// The first block of the part that is found at a call; none where none is.
 fn block_at(found: &[Found], from: usize) -> u32
-    ensures { result ≡ block_at found.now from }
+    ensures { result ≡ block_of_found found.now from }
 {
     match found.get(from) {
         Some(Found::Part(part)) => part.pair.0,
@@ -89,7 +89,7 @@ fn folder_or<'a>(folders: &'a [String], from: usize, base: &'a str) -> &'a str
 /// The name of an entry of what is found at a call, and where it stands.
 fn entry_at(found: &[Found], from: usize, index: usize) -> EntryName<'_>
     ensures name { result.name.now ≡ name_at found.now from index }
-    ensures block { result.block ≡ block_at found.now from }
+    ensures block { result.block ≡ block_of_found found.now from }
     ensures index { result.index ≡ index }
 {
     EntryName {

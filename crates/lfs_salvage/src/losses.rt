@@ -3,7 +3,7 @@
 ghost use Rattle.std.specs.Prelude.{◌≡◌, slice_get, slice_index_or};
 ghost use Rattle.std.specs.List.{list_any};
 ghost use Rattle.lfs_salvage.specs.Lost.{has_start};
-ghost use Rattle.lfs_salvage.specs.Losses.{are_same, found_at, is_file_lost, is_lost, is_lost_for, is_part_of, is_saved_at, losses_from, pair_at};
+ghost use Rattle.lfs_salvage.specs.Losses.{are_same, found_at_call, is_file_lost, is_lost, is_lost_for, is_part_of, is_saved_at, losses_from, call_pair};
 
 use crate::block_use::BlockUse;
 use crate::lost::has_start;
@@ -22,7 +22,7 @@ fn are_same(pair: (u32, u32), other: (u32, u32)) -> bool
 
 /// Whether a part is found at a call of an area, at the pair with these blocks.
 fn is_part_of(areas: &[Area], area: usize, call: usize, pair: (u32, u32)) -> bool
-    ensures { result ≡ is_part_of (found_at (slice_get areas.now area) call) pair }
+    ensures { result ≡ is_part_of (found_at_call (slice_get areas.now area) call) pair }
 {
     let Some(area) = areas.get(area) else {
         return false;
@@ -70,7 +70,7 @@ pub fn is_lost(areas: &[Area], uses: &[BlockUse], pair: (u32, u32), found: &Foun
 
 /// The pair of the call of this number, or that of the root where there is no such call.
 fn pair_at(calls: &[Call], call: usize) -> (u32, u32)
-    ensures { result ≡ pair_at calls.now call }
+    ensures { result ≡ call_pair calls.now call }
 {
     match calls.get(call) {
         Some(call) => call.pair,

@@ -3,7 +3,7 @@
 ghost use Rattle.std.specs.Prelude.{◌≡◌, ◌≢◌, [], ◌∷◌, Bool, ℕ, List, IfErr, IfOk, OnOk, string_bytes};
 ghost use Rattle.lfs_extract.specs.declared.extract_fault.ExtractFault.TheVariants.{CannotWrite, HostName};
 ghost use Rattle.lfs_extract.specs.PathBelow.{name_in};
-ghost use Rattle.lfs_host.specs.NewFolder.{Begins, FolderMade};
+ghost use Rattle.lfs_host.specs.NewFolder.{BeginsFile, FolderMade};
 ghost use Rattle.lfs_host.specs.Scene.{HasRefused, KeepsFiles};
 ghost use Rattle.lfs_salvage.specs.Below.{IsNameBelow, MakesBelow};
 ghost use Rattle.lfs_salvage.specs.Saving.{Saves};
@@ -49,7 +49,7 @@ pub(crate) fn begin_file<F: NewFolder>(
 ) -> Result<String, ExtractFault>
     ensures value { IfOk result (λ name. (numbered : Bool)
         × (string_bytes name ≡ name_in above.now (entry_word numbered named.entry.block named.entry.index named.entry.name.now))) }
-    ensures begun { OnOk result (Begins (F.known folder.new).made (F.known folder.new).filled) }
+    ensures begun { OnOk result (BeginsFile (F.known folder.new).made (F.known folder.new).filled) }
     ensures made { (F.known folder.new).made ≡ (F.known folder.old).made }
     ensures other { IfErr result (λ fault. fault ≢ HostName) }
     ensures named { (top : List ℕ) → IsNameBelow top above.now → IfOk result (λ name. IsNameBelow top (string_bytes name)) }

@@ -18,9 +18,9 @@ pub struct Salvage {
 
 impl Salvage {
     ghost use Rattle.std.specs.Prelude.{◌≡◌, ◌+◌, ◌<◌, ◌^◌, [], ◌++◌, IfOk, OnOk, length, slice_set};
-    ghost use Rattle.lfs_salvage.specs.Fate.{chained, settled, uses_behind};
+    ghost use Rattle.lfs_salvage.specs.Fate.{uses_by_chain, settled, uses_behind};
     ghost use Rattle.lfs_salvage.specs.FateHeld.{fate_held};
-    ghost use Rattle.lfs_salvage.specs.PartsUsed.{areas_uses, part_uses, parts_uses, uses_at_first};
+    ghost use Rattle.lfs_salvage.specs.PartsUsed.{areas_uses, uses_by_part, parts_uses, uses_at_first};
     ghost use Rattle.lfs_salvage.specs.Unsaved.{unsaved};
 
     /// Nothing is saved yet of an image of so many blocks, of which these areas are found: the blocks of their parts are in use, and no
@@ -60,7 +60,7 @@ impl Salvage {
 
     /// Marks the blocks of a part.
     fn mark_part(&mut self, area: usize, call: usize, found: &Found)
-        ensures uses { self.new.uses.items ≡ part_uses self.old.uses.items area call found.now }
+        ensures uses { self.new.uses.items ≡ uses_by_part self.old.uses.items area call found.now }
         ensures unsaved { self.new.unsaved ≡ self.old.unsaved }
     {
         if let Found::Part(part) = found {
@@ -82,7 +82,7 @@ impl Salvage {
 
     /// Marks the blocks of a chain.
     fn mark_chain(&mut self, blocks: &[u32])
-        ensures uses { self.new.uses.items ≡ chained self.old.uses.items blocks.now }
+        ensures uses { self.new.uses.items ≡ uses_by_chain self.old.uses.items blocks.now }
         ensures unsaved { self.new.unsaved ≡ self.old.unsaved }
     {
         'each: for block in blocks {

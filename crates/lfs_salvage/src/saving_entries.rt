@@ -2,14 +2,14 @@
 
 ghost use Rattle.std.specs.Prelude.{◌≡◌, ◌++◌, Bool, ℕ, List, IfErr, IfSome, OnOk, Some, option_map};
 ghost use Rattle.lfs_block.specs.Disk.{Disk};
-ghost use Rattle.lfs_extract.specs.Making.{contents_of};
+ghost use Rattle.lfs_extract.specs.Making.{held_bytes};
 ghost use Rattle.lfs_extract.specs.declared.extract_fault.ExtractFault.TheVariants.{CannotWrite};
 ghost use Rattle.lfs_extract.specs.PathBelow.{name_in};
 ghost use Rattle.lfs_fs.specs.RowHeld.{row_body_held};
 ghost use Rattle.lfs_fs.specs.RowShown.{HasBlocks};
 ghost use Rattle.lfs_host.specs.Scene.{HasRefused, KeepsFiles};
 ghost use Rattle.lfs_meta.specs.BodyHeld.{body_held};
-ghost use Rattle.lfs_salvage.specs.AreaMade.{entries_made, entries_unsaved, entries_uses, entry_made, entry_uses, file_made, parent_of};
+ghost use Rattle.lfs_salvage.specs.AreaMade.{entries_made, entries_unsaved, entries_uses, entry_made, uses_by_entry, file_made, call_parent};
 ghost use Rattle.lfs_salvage.specs.Below.{IsNameBelow, MakesBelow};
 ghost use Rattle.lfs_salvage.specs.Fate.{HasFileBlocks, fate, saved_bytes};
 ghost use Rattle.lfs_salvage.specs.FateHeld.{fate_held};
@@ -32,7 +32,7 @@ use std::alloc::Global;
 
 /// Where the bytes of a file are that is saved; none where none is.
 fn saved_body<'a>(stored: &'a Body, body: &'a FileBody) -> Option<RowBody<'a>>
-    ensures bytes { (d : Disk) → option_map (λ row. contents_of d (row_body_held row)) result ≡ saved_bytes d (body_held stored.now) (fate_held body.now) }
+    ensures bytes { (d : Disk) → option_map (λ row. held_bytes d (row_body_held row)) result ≡ saved_bytes d (body_held stored.now) (fate_held body.now) }
     ensures there { (d : Disk) → HasFileBlocks d (fate_held body.now) → IfSome result (λ row. HasBlocks d (row_body_held row)) }
 {
     match body {
@@ -63,7 +63,7 @@ fn make_named<B: Blocks, F: NewFolder>(
     requires blocks { HasBlocks (B.disk disk.now) (row_body_held body.now) }
     ensures made { (numbered : Bool) × Saves result (F.known folder.old).made (F.known folder.new).made
         (file_made (name_in above.now (entry_word numbered named.entry.block named.entry.index named.entry.name.now))
-        (Some (contents_of (B.disk disk.now) (row_body_held body.now)))) }
+        (Some (held_bytes (B.disk disk.now) (row_body_held body.now)))) }
     ensures below { (top : List ℕ) → IsNameBelow top above.now → MakesBelow top (F.known folder.old).made (F.known folder.new).made }
     ensures blamed { IfErr result (λ fault. fault ≡ CannotWrite → HasRefused (F.known folder.new)) }
     ensures kept { KeepsFiles (F.known folder.old) (F.known folder.new) }
@@ -116,7 +116,7 @@ fn save_entry<B: Blocks, F: NewFolder>(
 ) -> Result<(), ExtractFault>
     ensures made { (numbered : Bool) × Saves result (F.known folder.old).made (F.known folder.new).made
         (entry_made (B.disk disk.now) above.now numbered block parent.entry salvage.old.uses.items entry.now) }
-    ensures uses { OnOk result (salvage.new.uses.items ≡ entry_uses (B.disk disk.now) salvage.old.uses.items parent entry.now) }
+    ensures uses { OnOk result (salvage.new.uses.items ≡ uses_by_entry (B.disk disk.now) salvage.old.uses.items parent entry.now) }
     ensures unsaved { OnOk result (salvage.new.unsaved.items
         ≡ salvage.old.unsaved.items ++ unsaved parent (fate (B.disk disk.now) salvage.old.uses.items entry.now)) }
     ensures below { (top : List ℕ) → IsNameBelow top above.now → MakesBelow top (F.known folder.old).made (F.known folder.new).made }

@@ -6,7 +6,7 @@ ghost use Rattle.lfs_extract.specs.PathBelow.{name_in};
 ghost use Rattle.lfs_listing.specs.Listing.{shown_byte};
 ghost use Rattle.lfs_meta.specs.Name.{is_name};
 ghost use Rattle.lfs_salvage.specs.Below.{IsNameBelow};
-ghost use Rattle.lfs_salvage.specs.Word.{is_own_word, numbered_word, other_word, word};
+ghost use Rattle.lfs_salvage.specs.Word.{is_own_word, numbered_word, other_word, host_word};
 
 use crate::entry_name::EntryName;
 use lfs_listing::append_all_shown;
@@ -59,8 +59,8 @@ fn other_word(alloc: Global, name: &[u8]) -> Result<String, AllocError>
 
 /// A host's word for a name.
 fn word(alloc: Global, name: &[u8]) -> Result<String, AllocError>
-    ensures value { IfOk result (λ text. string_bytes text ≡ word name.now) }
-    ensures host { IsHostName (word name.now) }
+    ensures value { IfOk result (λ text. string_bytes text ≡ host_word name.now) }
+    ensures host { IsHostName (host_word name.now) }
 {
     match own_word(name) {
         Some(text) => String::from_str(alloc, text),
@@ -70,8 +70,8 @@ fn word(alloc: Global, name: &[u8]) -> Result<String, AllocError>
 
 /// The host's name of what has its word for a name in a folder.
 pub(crate) fn name_below(alloc: Global, folder: &str, name: &[u8]) -> Result<String, AllocError>
-    ensures value { IfOk result (λ below. string_bytes below ≡ name_in folder.now (word name.now)) }
-    ensures below { (top : List ℕ) → IsNameBelow top folder.now → IsNameBelow top (name_in folder.now (word name.now)) }
+    ensures value { IfOk result (λ below. string_bytes below ≡ name_in folder.now (host_word name.now)) }
+    ensures below { (top : List ℕ) → IsNameBelow top folder.now → IsNameBelow top (name_in folder.now (host_word name.now)) }
 {
     let word = word(alloc, name)?;
     format!(in alloc; "{folder}/{word}")
@@ -83,9 +83,9 @@ pub(crate) fn numbered_below(
     folder: &str,
     named: EntryName<'_>,
 ) -> Result<String, AllocError>
-    ensures value { IfOk result (λ below. string_bytes below ≡ name_in folder.now (numbered_word (word named.entry.name.now) named.entry.block named.entry.index)) }
+    ensures value { IfOk result (λ below. string_bytes below ≡ name_in folder.now (numbered_word (host_word named.entry.name.now) named.entry.block named.entry.index)) }
     ensures below { (top : List ℕ) → IsNameBelow top folder.now
-        → IsNameBelow top (name_in folder.now (numbered_word (word named.entry.name.now) named.entry.block named.entry.index)) }
+        → IsNameBelow top (name_in folder.now (numbered_word (host_word named.entry.name.now) named.entry.block named.entry.index)) }
 {
     let word = word(alloc, named.name)?;
     let EntryName { block, index, .. } = named;

@@ -6,7 +6,7 @@ use Rattle.lfs_command.specs.declared.refusal.Refusal.TheVariants.{Memory}
 use Rattle.lfs_fs.specs.Cause.{HasCause}
 use Rattle.lfs_report.specs.declared.stop.Stop.{Stop}
 use Rattle.lfs_request.specs.declared.fault.Fault.TheVariants.{Refused}
-use Rattle.lfs_serve.specs.Opened.{RefusesMount}
+use Rattle.lfs_serve.specs.Opened.{RefusesMounting}
 use Rattle.lfs_serve.specs.Repacking.{JudgesSource}
 use Rattle.lfs_serve.specs.declared.opened.Opened.{Opened}
 
@@ -17,7 +17,7 @@ disk_is size bytes d is size_is bytes_are =
 
 -- what one that isn't opened is refused for is a cause of its bytes
 pub judged : (size : ℕ) (bytes : List ℕ) (d : Disk) → IsDisk d → d ≡ image_of size bytes → (r : Result Opened Stop)
-    → IfErr r (λ stop. (stop.fault ≡ Refused Memory) ⊎ RefusesMount d stop.fault)
+    → IfErr r (λ stop. (stop.fault ≡ Refused Memory) ⊎ RefusesMounting d stop.fault)
     → IfErr r (λ stop. (stop.fault ≡ Refused Memory) ⊎ JudgesSource size bytes stop.fault)
 judged size bytes d is same (Ok o) refused = tt
 judged size bytes d is same (Err stop) (inl memory) = inl memory

@@ -16,7 +16,7 @@ use Rattle.lfs_fs.specs.Reading.{reading_of}
 use Rattle.lfs_lower.specs.ByDevice.{IsReadByDevice}
 use Rattle.lfs_lower.specs.ReadAs.{IsReadAs}
 use Rattle.lfs_lower.specs.Within.{IsOwnPart, count_stated, own_part, complete_blocks}
-use Rattle.lfs_serve.specs.ReadBy.{IsReadAt}
+use Rattle.lfs_serve.specs.ReadBy.{IsReadFrom}
 
 -- ---- what is read
 
@@ -66,7 +66,7 @@ own_long size bytes own (inr (fault, why, same)) =
     omega arith
 
 -- from any place on, in any manner
-pub read_long : (place : Option ℕ) (by_device : Bool) (size : ℕ) (old new : List ℕ) → IsReadAt place by_device size old new
+pub read_long : (place : Option ℕ) (by_device : Bool) (size : ℕ) (old new : List ℕ) → IsReadFrom place by_device size old new
     → length new ≤ length old
 read_long None by_device size old new read = read_as_long by_device size old new read
 read_long (Some place) by_device size old new (complete, read, own) =

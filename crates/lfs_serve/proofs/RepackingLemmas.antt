@@ -12,13 +12,13 @@ use Rattle.lfs_request.specs.View.{start_of}
 use Rattle.lfs_request.specs.declared.extent.Extent.{Extent}
 use Rattle.lfs_request.specs.declared.said_limits.SaidLimits.{SaidLimits}
 use Rattle.lfs_request.specs.declared.source_image.SourceImage.{SourceImage}
-use Rattle.lfs_serve.specs.Opened.{IsOpened}
+use Rattle.lfs_serve.specs.Opened.{IsSourceOpened}
 use Rattle.lfs_serve.specs.Repacking.{IsExtentFor, PacksSource, ReadsSource, RefusesSource}
 use Rattle.lfs_serve.specs.declared.opened.Opened.{Opened}
 
 -- the rows of its copies, with the limits that are said, and the others that it has
 pub packs : (source : SourceImage) (extent : Option Extent) (said : SaidLimits) (size : ℕ) (files : Option Files) (count : ℕ) (limits : Limits)
-    (rows : List PackRow) (o : Opened) → IsOpened source files o → map pack_text rows ≡ map source_text o.rows.items
+    (rows : List PackRow) (o : Opened) → IsSourceOpened source files o → map pack_text rows ≡ map source_text o.rows.items
     → limits ≡ limits_or said o.limits → IsExtentFor o.len size limits rows extent count
     → PacksSource source extent said size files count limits rows
 packs source extent said size files count limits rows o (image, reads, is) texts limits_are counts = record {
@@ -33,8 +33,8 @@ packs source extent said size files count limits rows o (image, reads, is) texts
 }
 
 -- what was opened, or refused, of a host whose files are the same
-pub opened_from : (source : SourceImage) (mid old : Option Files) (o : Opened) → mid ≡ old → IsOpened source mid o → IsOpened source old o
-opened_from source mid old o same is = subst (λ (f : Option Files). IsOpened source f o) same is
+pub opened_from : (source : SourceImage) (mid old : Option Files) (o : Opened) → mid ≡ old → IsSourceOpened source mid o → IsSourceOpened source old o
+opened_from source mid old o same is = subst (λ (f : Option Files). IsSourceOpened source f o) same is
 
 pub refused_from : (source : SourceImage) (mid old new : Scene) (why : Fault) → mid.files ≡ old.files → RefusesSource source mid new why
     → RefusesSource source old new why

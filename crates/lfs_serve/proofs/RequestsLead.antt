@@ -40,7 +40,7 @@ use Rattle.lfs_host.specs.Files.{Apart, BeginsWith, Files, FindsFile, ReadsFile,
 use Rattle.lfs_host.specs.Scene.{KeepsScene, Scene, WasRefused, unknown}
 use Rattle.lfs_request.specs.declared.task.Task.{Task}
 use Rattle.lfs_request.specs.declared.task.Task.TheVariants as task
-use Rattle.lfs_serve.specs.HostFolder.{packed_of}
+use Rattle.lfs_serve.specs.HostFolder.{packed_row}
 use Rattle.lfs_pack.specs.Repacked.{all_packed}
 use Rattle.lfs_serve.specs.ReadBy.{IsReadBy}
 use Rattle.lfs_serve.specs.Program.{BecomesStep, EndsStep, EndsTask, IsNotBegun, StopsStep, manner_of}
@@ -314,7 +314,7 @@ stop_leaves s manner size name scene behind fault old new h before later denotes
 
 -- the rows of a folder say what is packed, and no other step has any
 good_step : (t : Task) (size : ℕ) (scene : Scene) (s : Step) → BecomesStep t size scene s → HasGoodRows s
-good_step (task.Pack extent limits dir) size scene (Pack count stated rows) (folder, counts, same) = (map packed_of folder.shown, folder.packed)
+good_step (task.Pack extent limits dir) size scene (Pack count stated rows) (folder, counts, same) = (map packed_row folder.shown, folder.packed)
 good_step (task.Repack source extent said) size scene (Pack count stated rows) packs =
     (all_packed (image_of source.size packs.image) packs.mounted.rows, packs.rows_are)
 good_step (task.Format many limits) size scene (Pack count stated rows) becomes = absurd becomes

@@ -32,18 +32,18 @@ ReadsNoFolder tree dir new why =
 -- ---- what is packed
 
 -- what is below a folder at a path, without attributes
-abbrev pub packed_of : PathRow → Packed
-packed_of r = record { path = r.path; bytes = r.bytes; attributes = [] }
+abbrev pub packed_row : PathRow → Packed
+packed_row r = record { path = r.path; bytes = r.bytes; attributes = [] }
 
 -- rows say what is below a folder: all of it and nothing else, where the host is known
 pub record PacksFolder (tree : Option HostTree) (dir : List ℕ) (rows : List PackRow) : Type 0 where
   pub shown : List PathRow
   pub ordered : AreFolderRows shown
   pub all : IfSome tree (λ t. AreAllBelow most_file t dir shown)
-  pub packed : AreRowsOf rows (map packed_of shown)
+  pub packed : AreRowsOf rows (map packed_row shown)
 
 -- ---- rows, as the code has them
 
 -- the text of a folder's row, without attributes
-abbrev pub folder_text : FolderRow → RowText
-folder_text row = record { text = row.path.items; bytes = option_map (λ b. b.items) row.bytes; attributes = [] }
+abbrev pub text_of_folder_row : FolderRow → RowText
+text_of_folder_row row = record { text = row.path.items; bytes = option_map (λ b. b.items) row.bytes; attributes = [] }

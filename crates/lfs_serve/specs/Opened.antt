@@ -29,9 +29,9 @@ abbrev pub IsOpenedAs : ℕ → List ℕ → Opened → Type 0
 IsOpenedAs size bytes o = IsOpenedOn (image_of size bytes) o
 
 -- of a file whose bytes are, as they are read
-abbrev pub IsOpened : SourceImage → Option Files → Opened → Type 0
-IsOpened source files o = (image : List ℕ) × ReadsSource source files image × IsOpenedAs source.size image o
+abbrev pub IsSourceOpened : SourceImage → Option Files → Opened → Type 0
+IsSourceOpened source files o = (image : List ℕ) × ReadsSource source files image × IsOpenedAs source.size image o
 
 -- it doesn't mount
-abbrev pub RefusesMount : Disk → Fault → Type 0
-RefusesMount d fault = (cause : MountFault) × (fault ≡ Other (other.Mount cause)) × HasCause d cause
+abbrev pub RefusesMounting : Disk → Fault → Type 0
+RefusesMounting d fault = (cause : MountFault) × (fault ≡ Other (other.Mount cause)) × HasCause d cause

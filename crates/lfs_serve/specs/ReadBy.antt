@@ -2,7 +2,7 @@
 use Rattle.std.specs.Prelude.{ℕ, ◌≡◌, ◌⊎◌, Bool, true, List, Option, Some, None, IsSome}
 use Rattle.lfs_command.specs.declared.refusal.Refusal.TheVariants.{Memory}
 use Rattle.lfs_lower.specs.ReadAs.{IsReadAs}
-use Rattle.lfs_lower.specs.Within.{IsWithin}
+use Rattle.lfs_lower.specs.Within.{IsImageWithin}
 use Rattle.lfs_request.specs.Query.{Question}
 use Rattle.lfs_request.specs.declared.fault.Fault.{Fault}
 use Rattle.lfs_request.specs.declared.fault.Fault.TheVariants.{Refused}
@@ -10,13 +10,13 @@ use Rattle.lfs_request.specs.declared.query.Query.TheVariants.{Diff}
 use Rattle.lfs_request.specs.declared.view.View.{View}
 
 -- all of them, where the image is all of its file; else the image with which those begin that stand at its place and behind it
-abbrev pub IsReadAt : Option ℕ → Bool → ℕ → List ℕ → List ℕ → Type 0
-IsReadAt None by_device size old new = IsReadAs by_device size old new
-IsReadAt (Some place) by_device size old new = IsWithin by_device size old new
+abbrev pub IsReadFrom : Option ℕ → Bool → ℕ → List ℕ → List ℕ → Type 0
+IsReadFrom None by_device size old new = IsReadAs by_device size old new
+IsReadFrom (Some place) by_device size old new = IsImageWithin by_device size old new
 
 -- as the image is looked at: also as a device does, where that is asked for
 abbrev pub IsReadBy : View → ℕ → List ℕ → List ℕ → Type 0
-IsReadBy view size old new = IsReadAt view.offset view.by_device size old new
+IsReadBy view size old new = IsReadFrom view.offset view.by_device size old new
 
 -- they aren't read as they are
 abbrev pub IsReadAnew : View → Type 0

@@ -13,7 +13,7 @@ use Rattle.lfs_request.specs.declared.tree_change.TreeChange.{TreeChange}
 use Rattle.lfs_request.specs.declared.tree_change.TreeChange.TheVariants.{Remove, Make, Put, Sync}
 use Rattle.lfs_step.specs.TreeChanging.{Changing}
 use Rattle.lfs_sync.specs.Shown.{wanted_of}
-use Rattle.lfs_sync.specs.SyncRows.{AreRowsOf}
+use Rattle.lfs_sync.specs.SyncRows.{AreRowsOfFolder}
 use Rattle.lfs_sync.specs.declared.sync_row.SyncRow.{SyncRow}
 use Rattle.lfs_serve.specs.HostFolder.{ReadsNoFolder}
 
@@ -26,7 +26,7 @@ pub record SyncsFolder (tree : Option HostTree) (dir : List ℕ) (rows : List Sy
   pub shown : List PathRow
   pub ordered : AreFolderRows shown
   pub all : IfSome tree (λ t. AreAllBelow most_file t dir shown)
-  pub rows_are : AreRowsOf rows (map wanted_of shown)
+  pub rows_are : AreRowsOfFolder rows (map wanted_of shown)
 
 -- the change that it becomes, with all that is read of a host for it in hand
 abbrev pub BecomesChange : Asking → Scene → Changing → Type 0

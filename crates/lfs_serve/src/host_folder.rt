@@ -5,7 +5,7 @@ ghost use Rattle.lfs_extract.specs.FolderRows.{IsFolder};
 ghost use Rattle.lfs_fs.specs.Limits.{most_file};
 ghost use Rattle.lfs_host.specs.Scene.{KeepsAll};
 ghost use Rattle.lfs_pack.specs.RowText.{pack_text};
-ghost use Rattle.lfs_serve.specs.HostFolder.{ReadsNoFolder, fault_of_folder, folder_text};
+ghost use Rattle.lfs_serve.specs.HostFolder.{ReadsNoFolder, fault_of_folder, text_of_folder_row};
 
 use lfs_command::Refusal;
 use lfs_extract::{FolderFault, FolderRow, folder_rows};
@@ -44,7 +44,7 @@ fn fault_of_folder(fault: FolderFault) -> Fault
 
 /// A folder's row, as it is packed: without attributes.
 fn pack_row(row: &FolderRow) -> PackRow<'_>
-    ensures { pack_text result ≡ folder_text row.now }
+    ensures { pack_text result ≡ text_of_folder_row row.now }
 {
     PackRow {
         path: row.path.as_slice(),
@@ -55,7 +55,7 @@ fn pack_row(row: &FolderRow) -> PackRow<'_>
 
 /// A folder's rows, as they are packed.
 pub(crate) fn pack_rows(alloc: Global, folder: &[FolderRow]) -> Result<Vec<PackRow<'_>>, AllocError>
-    ensures { IfOk result (λ rows. map pack_text rows.items ≡ map folder_text folder.now) }
+    ensures { IfOk result (λ rows. map pack_text rows.items ≡ map text_of_folder_row folder.now) }
 {
     let mut rows = Vec::new(alloc);
     'each: for row in folder {

@@ -5,7 +5,7 @@ ghost use Rattle.lfs_command.specs.declared.refusal.Refusal.TheVariants.{Memory}
 ghost use Rattle.lfs_fs.specs.Mounted.{IsMountOf};
 ghost use Rattle.lfs_host.specs.Scene.{KeepsAll};
 ghost use Rattle.lfs_request.specs.declared.fault.Fault.TheVariants.{Refused};
-ghost use Rattle.lfs_serve.specs.Opened.{IsOpened, IsOpenedAs, IsOpenedOn, RefusesMount};
+ghost use Rattle.lfs_serve.specs.Opened.{IsSourceOpened, IsOpenedAs, IsOpenedOn, RefusesMounting};
 ghost use Rattle.lfs_serve.specs.Repacking.{JudgesSource, ReadsSource, RefusesSource};
 
 use crate::later::pass_source;
@@ -38,7 +38,7 @@ pub(crate) fn open_source<H: Host>(
     context: &mut Context,
     source: &SourceImage<'_>,
 ) -> Result<Opened, Stop>
-    ensures opened { IfOk result (IsOpened source.now (H.known host.old).files) }
+    ensures opened { IfOk result (IsSourceOpened source.now (H.known host.old).files) }
     ensures refused { IfErr result (λ stop. RefusesSource source.now (H.known host.old) (H.known host.new) stop.fault) }
     ensures kept { KeepsAll (H.known host.old) (H.known host.new) }
 {
@@ -88,7 +88,7 @@ fn opened_on(
     context: &mut Context,
 ) -> Result<Opened, Stop>
     ensures opened { IfOk result (IsOpenedOn image.now.disk) }
-    ensures refused { IfErr result (λ stop. (stop.fault ≡ Refused Memory) ⊎ RefusesMount image.now.disk stop.fault) }
+    ensures refused { IfErr result (λ stop. (stop.fault ≡ Refused Memory) ⊎ RefusesMounting image.now.disk stop.fault) }
 {
     outlines_are_sound();
     let mounted = mounted_source(alloc, image, seen, context)?;
@@ -107,7 +107,7 @@ fn mounted_source(
     context: &mut Context,
 ) -> Result<Mounted, Stop>
     ensures mounted { IfOk result (λ mounted. IsMountOf image.now.disk mounted) }
-    ensures refused { IfErr result (λ stop. (stop.fault ≡ Refused Memory) ⊎ RefusesMount image.now.disk stop.fault) }
+    ensures refused { IfErr result (λ stop. (stop.fault ≡ Refused Memory) ⊎ RefusesMounting image.now.disk stop.fault) }
 {
     match mount(alloc, image) {
         Ok(mounted) => Ok(mounted),

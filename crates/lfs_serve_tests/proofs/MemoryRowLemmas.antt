@@ -4,7 +4,7 @@ use Rattle.std.specs.Prelude.{flat_map, IfErr, Result, Ok, Err}
 use Rattle.std.proofs.lemmas.List.{append-nil}
 use Rattle.lfs_fs.specs.Path.{Path}
 use Rattle.lfs_extract.specs.PathBelow.{host_name, name_in}
-use Rattle.lfs_extract.specs.FolderRows.{IsBelow, BlamesHost, RefusesTree}
+use Rattle.lfs_extract.specs.FolderRows.{IsBelow, BlamesHost, RefusesHostTree}
 use Rattle.lfs_extract.specs.declared.folder_fault.FolderFault.{FolderFault}
 use Rattle.lfs_extract.specs.declared.folder_fault.FolderFault.TheVariants.{Memory, HostEntry, HostName, CannotRead}
 use Rattle.lfs_host.specs.HostTree.{HostTree, NothingThere, OtherThere}
@@ -12,7 +12,7 @@ use Rattle.lfs_host.specs.MadeEntry.{made_as}
 use Rattle.lfs_host.specs.MemoryFiles.{files_of}
 use Rattle.lfs_host.specs.Scene.{HasRefused, Scene}
 use Rattle.lfs_host.specs.declared.memory_host.MemoryHost.{MemoryHost}
-use Rattle.lfs_host.specs.MemoryTree.{HasNoGap, node_of, tree_of}
+use Rattle.lfs_host.specs.MemoryTree.{HasNoGap, host_node_of, tree_of}
 use Rattle.lfs_serve_tests.specs.MemoryRows.{RefusesInMemory}
 
 -- what is known of a host in memory
@@ -33,7 +33,7 @@ scene_of host = record {
 }
 
 -- a file or a folder isn't something else
-pub node_is_known : (file : Option (List ℕ)) (names : List (List ℕ)) → node_of file names ≢ OtherThere
+pub node_is_known : (file : Option (List ℕ)) (names : List (List ℕ)) → host_node_of file names ≢ OtherThere
 node_is_known (Some bytes) names = λ other. cc
 node_is_known None [] = λ other. cc
 node_is_known None (n ∷ names) = λ other. cc
@@ -50,7 +50,7 @@ below_is_there tree complete name (n ∷ (m ∷ path)) other (names, folder, the
 
 -- why a folder of a host in memory isn't read
 refuses_by : (tree : HostTree) (dir : List ℕ) (scene : Scene) (new : MemoryHost) (fault : FolderFault) → HasNoGap tree
-    → ((name : List ℕ) → tree name ≢ OtherThere) → (HasRefused scene → new.has_refused ≡ true) → RefusesTree tree dir fault
+    → ((name : List ℕ) → tree name ≢ OtherThere) → (HasRefused scene → new.has_refused ≡ true) → RefusesHostTree tree dir fault
     → BlamesHost (Some tree) dir scene fault → RefusesInMemory tree dir new fault
 refuses_by tree dir scene new HostEntry complete known noted (path, below, other, there) blamed = absurd (known (host_name dir path) there)
 refuses_by tree dir scene new CannotRead complete known noted why (inl refused) = inl (noted refused)
@@ -61,7 +61,7 @@ refuses_by tree dir scene new HostName complete known noted why blamed = tt
 refuses_by tree dir scene new Memory complete known noted why blamed = tt
 
 pub refuses_in_memory : {T : Type 0} (tree : HostTree) (dir : List ℕ) (scene : Scene) (new : MemoryHost) (rows : Result T FolderFault) → HasNoGap tree
-    → ((name : List ℕ) → tree name ≢ OtherThere) → (HasRefused scene → new.has_refused ≡ true) → IfErr rows (λ fault. RefusesTree tree dir fault)
+    → ((name : List ℕ) → tree name ≢ OtherThere) → (HasRefused scene → new.has_refused ≡ true) → IfErr rows (λ fault. RefusesHostTree tree dir fault)
     → IfErr rows (λ fault. BlamesHost (Some tree) dir scene fault) → IfErr rows (λ fault. RefusesInMemory tree dir new fault)
 refuses_in_memory tree dir scene new (Ok rows) complete known noted why blamed = tt
 refuses_in_memory tree dir scene new (Err fault) complete known noted why blamed = refuses_by tree dir scene new fault complete known noted why blamed

@@ -17,7 +17,7 @@ use Rattle.lfs_history.specs.Together.{PlansAll, PlansTogether, RefusesTogether}
 use Rattle.lfs_history.specs.TogetherLaws.{TogetherIsOneByOne}
 use Rattle.lfs_history.proofs.MoveLemmas.{Follow, planned_mounts}
 use Rattle.lfs_history.proofs.TogetherLemmas.{one_more_planned}
-use Rattle.lfs_session.specs.Joining.{AreJoined, CarriesOn, IsBehind, MayJoin, MayTakeBack, taken_back}
+use Rattle.lfs_session.specs.Joining.{AreJoined, CarriesOneMore, IsBehind, MayJoin, MayTakeBack, taken_back}
 
 -- ---- one patch behind others
 
@@ -56,7 +56,7 @@ one_by_one law d asked p e disk plans is = is ∙ (law.one d asked p plans disk)
 
 -- one command more
 pub joined_more : Join → (d : Disk) (asked : List Asked) (a : Asked) (before after : Option ChangeSet) (mid e : Disk) → IsDisk d
-    → AreJoined d asked before mid → CarriesOn mid before a after e → AreJoined d (asked ++ a ∷ []) after e
+    → AreJoined d asked before mid → CarriesOneMore mid before a after e → AreJoined d (asked ++ a ∷ []) after e
 joined_more law d asked a None after mid e disk joined on =
     let q = on.change in
     let plans : Plans d a q = subst (λ (x : Disk). Plans x a q) joined.1 on.plans in
@@ -82,13 +82,13 @@ joined_more law d asked a (Some p) after mid e disk joined on =
 -- so it is by the next command of a list
 pub joined_next : Join → (d : Disk) (commands : List OnTexts) (i : ℕ) (c : OnTexts) (before after : Option ChangeSet) (mid e : Disk)
     → IsDisk d → i < length commands → AreJoined d (map asked_for (take i commands)) before mid
-    → CarriesOn mid before (asked_for (get_or commands i c)) after e → AreJoined d (map asked_for (take (i + 1) commands)) after e
+    → CarriesOneMore mid before (asked_for (get_or commands i c)) after e → AreJoined d (map asked_for (take (i + 1) commands)) after e
 joined_next law d commands i c before after mid e disk within joined on =
     subst (λ (them : List Asked). AreJoined d them after e) (sym (map_more asked_for commands i c within))
     (joined_more law d (map asked_for (take i commands)) (asked_for (get_or commands i c)) before after mid e disk joined on)
 
 -- and the image mounts
-pub mounts_on : Follow → (mid e : Disk) (before after : Option ChangeSet) (a : Asked) → CarriesOn mid before a after e → IsMounted e
+pub mounts_on : Follow → (mid e : Disk) (before after : Option ChangeSet) (a : Asked) → CarriesOneMore mid before a after e → IsMounted e
 mounts_on law mid e before after a on = subst IsMounted (sym on.image) (planned_mounts law mid a on.change on.plans)
 
 -- ---- one that is refused

@@ -11,7 +11,7 @@ use Rattle.lfs_block.specs.Patch.{ChangeSet, IsGrowth, AgreesNew, AgreesOld, app
 use Rattle.lfs_fs.specs.Volume.{Volume}
 use Rattle.lfs_fs.specs.Cause.{HasCause}
 use Rattle.lfs_fs.specs.Mounted.{IsMountOf, IsOutlineOf, MountedValue}
-use Rattle.lfs_journal.specs.Book.{Book, IsBookOf, IsPatchOf, Spells, book_of}
+use Rattle.lfs_journal.specs.Book.{Book, IsBookOf, IsPatchOf, SpellsJournal, book_of}
 use Rattle.lfs_journal.specs.Faults.{IsNoJournal}
 use Rattle.lfs_journal.specs.declared.journal_fault.JournalFault.{JournalFault}
 use Rattle.lfs_journal.specs.declared.journal_fault.JournalFault.TheVariants.{JournalFormat as Unspelled, Memory as Unread}
@@ -150,7 +150,7 @@ future_later_refused fault qs ps p d e is to h =
 
 -- ---- what was read
 
-pub agreed : (d : Disk) (bytes : List ℕ) (j : Book) (ps : List ChangeSet) (done : ℕ) → IsDisk d → Spells bytes j
+pub agreed : (d : Disk) (bytes : List ℕ) (j : Book) (ps : List ChangeSet) (done : ℕ) → IsDisk d → SpellsJournal bytes j
     → book_of j.size j.count ps done ≡ j → done ≤ length ps → j.size ≡ d.size → j.count ≡ d.count
     → GoesBack (reverse (take done ps)) d → GoesForward (drop done ps) d → DenotesChanges d bytes ps done
 agreed d bytes j ps done disk spelled parts within size count back on =
@@ -159,7 +159,7 @@ agreed d bytes j ps done disk spelled parts within size count back on =
     record {
       disk = disk;
       within = within;
-      spelled = subst (Spells bytes) (sym is) spelled;
+      spelled = subst (SpellsJournal bytes) (sym is) spelled;
       agrees = record { size = refl; count = refl; back = back; on = on };
     }
 

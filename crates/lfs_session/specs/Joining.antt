@@ -33,7 +33,7 @@ taken_back None e = e
 taken_back (Some p) e = reverted p e
 
 -- one command more is carried out on an image, and its patch is one with those before it
-pub record CarriesOn (d : Disk) (before : Option ChangeSet) (asked : Asked) (after : Option ChangeSet) (e : Disk) : Type 0 where
+pub record CarriesOneMore (d : Disk) (before : Option ChangeSet) (asked : Asked) (after : Option ChangeSet) (e : Disk) : Type 0 where
   pub change : ChangeSet
   pub plans : Plans d asked change
   pub joint : after ≡ Some (joined_with before change)

@@ -6,7 +6,7 @@ use Rattle.lfs_block.specs.declared.mount_fault.MountFault.TheVariants.{Memory}
 use Rattle.lfs_block.specs.Patch.{ChangeSet}
 use Rattle.lfs_fs.specs.Mounted.{IsOutlineOf}
 use Rattle.lfs_fs.specs.Volume.{Volume}
-use Rattle.lfs_journal.specs.Book.{Spells, book_of}
+use Rattle.lfs_journal.specs.Book.{SpellsJournal, book_of}
 use Rattle.lfs_history.specs.declared.open_fault.OpenFault.{OpenFault}
 use Rattle.lfs_history.specs.declared.open_fault.OpenFault.TheVariants.{Mount, JournalImage}
 use Rattle.lfs_history.specs.Opening.{HasHistory, HasSomeCause}
@@ -29,12 +29,12 @@ RefusesMounts _ es = ⊥
 pub record DenotesChanges (d : Disk) (bytes : List ℕ) (patches : List ChangeSet) (done : ℕ) : Type 0 where
   pub disk : IsDisk d
   pub within : done ≤ length patches
-  pub spelled : Spells bytes (book_of d.size d.count patches done)
+  pub spelled : SpellsJournal bytes (book_of d.size d.count patches done)
   pub agrees : HasHistory d (book_of d.size d.count patches done)
 
 -- what a session keeps of an image and the bytes of its journal
 pub record OpensParts (m : Medium) (bytes : List ℕ) (o : Volume) (patches : List ChangeSet) (done : ℕ) : Type 0 where
-  pub spelled : Spells bytes (book_of m.disk.size m.disk.count patches done)
+  pub spelled : SpellsJournal bytes (book_of m.disk.size m.disk.count patches done)
   pub agrees : HasHistory m.disk (book_of m.disk.size m.disk.count patches done)
   pub outline : IsOutlineOf m.disk o
   pub session : IsSession m None patches done

@@ -6,7 +6,7 @@ ghost use Rattle.lfs_command.specs.AskedFor.{asked_for};
 ghost use Rattle.lfs_command.specs.Planned.{RefusesPlan};
 ghost use Rattle.lfs_history.specs.History.{IsMounted};
 ghost use Rattle.lfs_history.specs.Together.{RefusesTogether};
-ghost use Rattle.lfs_session.specs.Joining.{AreJoined, CarriesOn, IsBehind, MayJoin, MayTakeBack, joined_with, taken_back};
+ghost use Rattle.lfs_session.specs.Joining.{AreJoined, CarriesOneMore, IsBehind, MayJoin, MayTakeBack, joined_with, taken_back};
 ghost use Rattle.lfs_session.specs.Known.{IsKnown};
 
 use crate::carried::{Carried, carried_out};
@@ -53,7 +53,7 @@ fn carry_on(
     requires mounts { IsMounted image.old.disk }
     requires known { IsKnown image.old.disk known.old }
     requires behind { IsBehind joint.old image.old.disk }
-    ensures carried { OnOk result (CarriesOn image.old.disk joint.old (asked_for command.now) joint.new image.new.disk) }
+    ensures carried { OnOk result (CarriesOneMore image.old.disk joint.old (asked_for command.now) joint.new image.new.disk) }
     ensures refused { IfErr result (λ refusal. RefusesPlan image.old.disk (asked_for command.now) refusal) }
     ensures image { OnErr result (image.new.disk ≡ image.old.disk) }
     ensures joint { OnErr result (joint.new ≡ joint.old) }

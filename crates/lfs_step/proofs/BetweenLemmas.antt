@@ -8,7 +8,7 @@ use Rattle.lfs_block.specs.Patch.{ChangeSet, IsGrowth, AgreesOld, AgreesNew, app
 use Rattle.lfs_history.specs.History.{GoesBack, GoesForward, past_of, future_of}
 use Rattle.lfs_history.proofs.MoveLemmas.{TakeBack, Make, latest}
 use Rattle.lfs_session.proofs.PlaceLemmas.{IsAt, is_at}
-use Rattle.lfs_step.specs.Between.{IsBetween, images_at, later_at}
+use Rattle.lfs_step.specs.Between.{IsBetween, images_at, images_behind}
 
 -- the change that is read at a place stands there
 pub is_here : (ps : List ChangeSet) (i j : ℕ) (read : ChangeSet) → j ≡ i + 1 → i < length ps → read ≡ get_or ps i read
@@ -72,7 +72,7 @@ on_agrees d ps i j p at b =
 pub record IsOn (d e : Disk) (ps : List ChangeSet) (i j : ℕ) : Type 0 where
   pub between : IsBetween e ps j
   pub size : e.size ≡ d.size
-  pub later : later_at d ps i ≡ e ∷ later_at e ps j
+  pub later : images_behind d ps i ≡ e ∷ images_behind e ps j
 
 pub goes_on : Make → (d e : Disk) (ps : List ChangeSet) (i j : ℕ) (p : ChangeSet) → IsAt ps i j p → IsBetween d ps i → e ≡ applied p d
     → IsOn d e ps i j

@@ -10,7 +10,7 @@ use Rattle.lfs_block.specs.Disk.{Disk, IsDisk}
 use Rattle.lfs_meta.specs.Attribute.{Attributes}
 use Rattle.lfs_meta.specs.Body.{Pair}
 use Rattle.lfs_fs.specs.Path.{Path, IsPathText}
-use Rattle.lfs_fs.specs.Graph.{step, walk}
+use Rattle.lfs_fs.specs.Graph.{entry_within, walk}
 use Rattle.lfs_fs.specs.Entry.{Entry, Body, Inline, Chain, Directory_at, body_target, target}
 use Rattle.lfs_fs.specs.Volume.{Volume}
 use Rattle.lfs_fs.specs.Tree.{Node, File, Dir, entry_in, entry_at, node, node_of, top, tree}
@@ -30,7 +30,7 @@ use Rattle.lfs_edit.proofs.VerdictKinds.{IsOfVerdict, MayBeOfVerdict, of_first, 
 use Rattle.lfs_edit.proofs.Verdicts.{refused_first}
 use Rattle.lfs_law.proofs.Walks.{walk-none}
 use Rattle.lfs_step.specs.Contents.{Checks, FailsCheck, IsContents, RefusesContents, RefusesPath, reading_checks}
-use Rattle.lfs_step.specs.Listed.{IsThere, RefusesListing, standing_checks}
+use Rattle.lfs_step.specs.Listed.{IsPathThere, RefusesListing, standing_checks}
 
 -- ---- the walk of a path where something is
 
@@ -51,7 +51,7 @@ pub walk_reached : (v : Volume) (front path : Path) (e : Entry) → entry_at v (
     → walk_refusal (tree v) front path ≡ None
 walk_reached v front [] e there = refl
 walk_reached v front (n ∷ ns) e there =
-    let later = walked_on v (step target (entry_in v.directories) n (entry_at v front)) ns e
+    let later = walked_on v (entry_within target (entry_in v.directories) n (entry_at v front)) ns e
     (sym (walk-append target (entry_in v.directories) (Some (top v)) front (n ∷ ns)) ∙ there) in
     let above = step_some target (entry_in v.directories) n (entry_at v front) later.0 later.1 in
     let f : Entry = above.0 in
@@ -164,13 +164,13 @@ module _ (shows : RowsShowTheTree) (d : Disk) (disk : IsDisk d) (m : MountedValu
   })
 
   -- something is there
-  pub there_listed : (e : Entry) → entry_at m.outline path ≡ Some e → IsThere d m text path
+  pub there_listed : (e : Entry) → entry_at m.outline path ≡ Some e → IsPathThere d m text path
   there_listed e at = record {
     spelled = spelled;
     there = λ mounts. ap is_some (shows d m mounts (record { path = path; entry = e }) disk (mounts.rows.complete path e at)).0;
   }
 
-  pub root_listed : path ≡ [] → IsThere d m text path
+  pub root_listed : path ≡ [] → IsPathThere d m text path
   root_listed root = record { spelled = spelled; there = λ mounts. ap (λ (p : Path). is_some (tree mounts.volume p)) root }
 
   -- where the path is the root's

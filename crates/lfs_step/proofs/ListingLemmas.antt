@@ -14,7 +14,7 @@ use Rattle.lfs_request.specs.declared.query.Query.TheVariants.{Ls, Blocks}
 use Rattle.lfs_request.specs.declared.fault.Fault.{Fault}
 use Rattle.lfs_request.specs.Fault.{blames_output, fault_of_mount}
 use Rattle.lfs_step.proofs.ComparingLemmas.{same_kept}
-use Rattle.lfs_step.specs.Listed.{IsListing, IsThere, listing_text}
+use Rattle.lfs_step.specs.Listed.{IsListing, IsPathThere, listing_text}
 use Rattle.lfs_step.specs.Query.{RefusesReport, SendsReport, blocks_text, fault_of_unsent}
 
 -- the sink is blamed by the fault that is told
@@ -37,20 +37,20 @@ listing_silent form digests path d cause f o is =
     silent form digests path d _ o = same_kept o
 
 -- what lists a path at which something stands
-listing_is : (form : Form) (digests : Bool) (d : Disk) (m : MountedValue) (is : IsMountOf d m) (path : Bor (List ℕ)) (at : Path) → IsThere d m path.now at
+listing_is : (form : Form) (digests : Bool) (d : Disk) (m : MountedValue) (is : IsMountOf d m) (path : Bor (List ℕ)) (at : Path) → IsPathThere d m path.now at
     → IsListing form digests d path.now (listing_text form digests d at m.rows)
 listing_is form digests d m is path at there = record { mounted = m; mounts = is; at = at; there = there; text_is = refl }
 
-pub listing_complete : (form : Form) (digests : Bool) (d : Disk) (m : MountedValue) → IsMountOf d m → (path : Bor (List ℕ)) (at : Path) → IsThere d m path.now at
+pub listing_complete : (form : Form) (digests : Bool) (d : Disk) (m : MountedValue) → IsMountOf d m → (path : Bor (List ℕ)) (at : Path) → IsPathThere d m path.now at
     → (old new : Option (List ℕ)) → Appends old new (listing_text form digests d at m.rows) → SendsReport (Ls path digests) form d None old new
 listing_complete form digests d m is path at there old new sends = (listing_text form digests d at m.rows, listing_is form digests d m is path at there, sends)
 
-pub listing_refused : (form : Form) (digests : Bool) (d : Disk) (m : MountedValue) → IsMountOf d m → (path : Bor (List ℕ)) (at : Path) → IsThere d m path.now at
+pub listing_refused : (form : Form) (digests : Bool) (d : Disk) (m : MountedValue) → IsMountOf d m → (path : Bor (List ℕ)) (at : Path) → IsPathThere d m path.now at
     → (u : Unsent) → RefusesReport (Ls path digests) form d (fault_of_unsent u)
 listing_refused form digests d m is path at there Memory = tt
 listing_refused form digests d m is path at there CannotWrite = (listing_text form digests d at m.rows, listing_is form digests d m is path at there)
 
-pub listing_sent : (form : Form) (digests : Bool) (d : Disk) (m : MountedValue) → IsMountOf d m → (path : Bor (List ℕ)) (at : Path) → IsThere d m path.now at
+pub listing_sent : (form : Form) (digests : Bool) (d : Disk) (m : MountedValue) → IsMountOf d m → (path : Bor (List ℕ)) (at : Path) → IsPathThere d m path.now at
     → (u : Unsent) (old new : Option (List ℕ)) → SendsListing (Some u) old new (listing_text form digests d at m.rows)
     → SendsReport (Ls path digests) form d (Some (fault_of_unsent u)) old new
 listing_sent form digests d m is path at there Memory old new (n, within, sends) =

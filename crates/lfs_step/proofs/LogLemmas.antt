@@ -19,7 +19,7 @@ use Rattle.lfs_json.specs.declared.form.Form.{Form}
 use Rattle.lfs_session.specs.Opened.{DenotesChanges, RefusesMounts}
 use Rattle.lfs_session.proofs.OpeningLemmas.{others_refused}
 use Rattle.lfs_step.specs.Between.{TellsAll, images_at}
-use Rattle.lfs_step.specs.Log.{IsLog, log_from}
+use Rattle.lfs_step.specs.Log.{IsHistoryLog, history_text_from}
 
 -- ---- lists
 
@@ -53,7 +53,7 @@ each_mounts (d ∷ ds) [] are = absurd are
 -- ---- all are told
 
 pub logged : (form : Form) (d : Disk) (bytes : List ℕ) (ps : List ChangeSet) (done : ℕ) (old new : List ℕ) → DenotesChanges d bytes ps done → old ≡ []
-    → TellsAll form d ps done done old new → (h : History) × Opens d bytes h × IsLog form h new
+    → TellsAll form d ps done done old new → (h : History) × Opens d bytes h × IsHistoryLog form h new
 logged form d bytes ps done old new is empty told =
     let past = past_of (reverse (take done ps)) d in
     let future = future_of (drop done ps) d in
@@ -79,8 +79,8 @@ logged form d bytes ps done old new is empty told =
       record {
         mounts = told.mounts;
         are = told.are;
-        text_is = told.text ∙ ap (λ (xs : List ℕ). xs ++ log_from form 1 done (images_at d ps done) told.mounts) empty
-            ∙ ap (λ (n : ℕ). log_from form 1 n (images_at d ps done) told.mounts) (sym (length-take-le done ps is.within));
+        text_is = told.text ∙ ap (λ (xs : List ℕ). xs ++ history_text_from form 1 done (images_at d ps done) told.mounts) empty
+            ∙ ap (λ (n : ℕ). history_text_from form 1 n (images_at d ps done) told.mounts) (sym (length-take-le done ps is.within));
       },
     )
 

@@ -15,14 +15,14 @@ use Rattle.lfs_request.specs.declared.fault.Fault.{Fault}
 use Rattle.lfs_request.specs.declared.fault.Fault.TheVariants as fault
 use Rattle.lfs_change.proofs.ChangeLemmas.{opened_denotes}
 use Rattle.lfs_step.proofs.HistoriesLeft.{fresh_is}
-use Rattle.lfs_step.specs.Log.{IsLog}
+use Rattle.lfs_step.specs.Log.{IsHistoryLog}
 use Rattle.lfs_step.specs.Recounting.{IsRecount, RefusesRecount}
 
 -- ---- the text
 
 -- a journal that is there is told as its history
 pub log_told : (form : Form) (d : Disk) (journal : List ℕ) (r : Result (Vec ℕ) OpenFault) → journal ≢ []
-    → IfOk r (λ text. (h : History) × Opens d journal h × IsLog form h text.items) → IfOk r (λ text. IsRecount form d journal text.items)
+    → IfOk r (λ text. (h : History) × Opens d journal h × IsHistoryLog form h text.items) → IfOk r (λ text. IsRecount form d journal text.items)
 log_told form d journal (Ok text) some (h, opens, log) =
     record { history = h; denotes = opened_denotes d journal h some opens; log = log }
 log_told form d journal (Err f) some told = tt

@@ -9,11 +9,11 @@ use Rattle.lfs_session.specs.Opened.{RefusesMount, RefusesMounts}
 use Rattle.lfs_session.proofs.OpeningLemmas.{first_refused, later_refused}
 use Rattle.lfs_json.specs.declared.form.Form.{Form}
 use Rattle.lfs_listing.specs.Difference.{difference}
-use Rattle.lfs_step.specs.Between.{TellsAll, TellsOn, images_at, later_at}
-use Rattle.lfs_step.specs.Log.{change_line, log_behind, log_from}
+use Rattle.lfs_step.specs.Between.{TellsAll, TellsOn, images_at, images_behind}
+use Rattle.lfs_step.specs.Log.{change_line, log_behind, history_text_from}
 
 -- nothing is told behind the last image
-pub tells_none : (form : Form) (d : Disk) (m : MountedValue) (ps : List ChangeSet) (at done : ℕ) (old : List ℕ) → later_at d ps at ≡ []
+pub tells_none : (form : Form) (d : Disk) (m : MountedValue) (ps : List ChangeSet) (at done : ℕ) (old : List ℕ) → images_behind d ps at ≡ []
     → TellsOn form d m ps at done old old
 tells_none form d m ps at done old none = record {
   mounts = [];
@@ -23,11 +23,11 @@ tells_none form d m ps at done old none = record {
 
 -- a change is told, and then those behind it
 pub tells_next : (form : Form) (d e : Disk) (m k : MountedValue) (ps : List ChangeSet) (i j done : ℕ) (old mid new : List ℕ) → j ≡ i + 1
-    → later_at d ps i ≡ e ∷ later_at e ps j → IsMountOf e k
+    → images_behind d ps i ≡ e ∷ images_behind e ps j → IsMountOf e k
     → mid ≡ old ++ change_line form (i + 1) done ++ difference form d m.rows e k.rows
     → TellsOn form e k ps j done mid new → TellsOn form d m ps i done old new
 tells_next form d e m k ps i j done old mid new next later mounts line told =
-    let es = later_at e ps j in
+    let es = images_behind e ps j in
     let rest = log_behind form (j + 1) done e k es told.mounts in
     let change = change_line form (i + 1) done in
     let differs = difference form d m.rows e k.rows in
@@ -53,20 +53,20 @@ pub tells_back : (form : Form) (d e : Disk) (ps : List ChangeSet) (i j done : �
 tells_back form d e ps i j done old new images told = record {
   mounts = told.mounts;
   are = subst (λ (es : List Disk). AllZip IsMountOf es told.mounts) images told.are;
-  text = told.text ∙ ap (λ (es : List Disk). old ++ log_from form 1 done es told.mounts) images;
+  text = told.text ∙ ap (λ (es : List Disk). old ++ history_text_from form 1 done es told.mounts) images;
 }
 
 -- the image after a change isn't mounted, or one behind it
-pub next_refused : (fault : OpenFault) (d e : Disk) (ps : List ChangeSet) (i j : ℕ) → later_at d ps i ≡ e ∷ later_at e ps j
-    → RefusesMount fault e → RefusesMounts fault (later_at d ps i)
-next_refused fault d e ps i j later h = subst (RefusesMounts fault) (sym later) (first_refused fault e (later_at e ps j) h)
+pub next_refused : (fault : OpenFault) (d e : Disk) (ps : List ChangeSet) (i j : ℕ) → images_behind d ps i ≡ e ∷ images_behind e ps j
+    → RefusesMount fault e → RefusesMounts fault (images_behind d ps i)
+next_refused fault d e ps i j later h = subst (RefusesMounts fault) (sym later) (first_refused fault e (images_behind e ps j) h)
 
-pub behind_refused : (fault : OpenFault) (d e : Disk) (ps : List ChangeSet) (i j : ℕ) → later_at d ps i ≡ e ∷ later_at e ps j
-    → RefusesMounts fault (later_at e ps j) → RefusesMounts fault (later_at d ps i)
-behind_refused fault d e ps i j later h = subst (RefusesMounts fault) (sym later) (later_refused fault e (later_at e ps j) h)
+pub behind_refused : (fault : OpenFault) (d e : Disk) (ps : List ChangeSet) (i j : ℕ) → images_behind d ps i ≡ e ∷ images_behind e ps j
+    → RefusesMounts fault (images_behind e ps j) → RefusesMounts fault (images_behind d ps i)
+behind_refused fault d e ps i j later h = subst (RefusesMounts fault) (sym later) (later_refused fault e (images_behind e ps j) h)
 
 -- one behind the oldest image isn't mounted
-pub first_image_refused : (fault : OpenFault) (d : Disk) (ps : List ChangeSet) (at : ℕ) → at ≡ 0 → RefusesMounts fault (later_at d ps 0)
+pub first_image_refused : (fault : OpenFault) (d : Disk) (ps : List ChangeSet) (at : ℕ) → at ≡ 0 → RefusesMounts fault (images_behind d ps 0)
     → RefusesMounts fault (images_at d ps at)
 first_image_refused fault d ps at first h =
-    subst (λ (n : ℕ). RefusesMounts fault (images_at d ps n)) (sym first) (later_refused fault d (later_at d ps 0) h)
+    subst (λ (n : ℕ). RefusesMounts fault (images_at d ps n)) (sym first) (later_refused fault d (images_behind d ps 0) h)

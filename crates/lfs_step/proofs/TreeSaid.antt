@@ -27,8 +27,8 @@ use Rattle.lfs_sync.specs.Planned.{in_texts}
 use Rattle.lfs_sync.specs.Shown.{AreHeld, Shown, held_of}
 use Rattle.lfs_sync.specs.SyncLaws.{RowsAreHeld}
 use Rattle.lfs_sync.specs.SyncRows.{SayFolder}
-use Rattle.lfs_sync.specs.Synced.{equations, lacking, make_commands, put_commands, remove_by, remove_commands, sync_commands, synced_by}
-use Rattle.lfs_sync.specs.Synced.{with_parents, with_parents_by, without}
+use Rattle.lfs_sync.specs.Synced.{equations_of, lacking, make_commands, put_commands, remove_by, remove_commands, sync_commands, synced_by}
+use Rattle.lfs_sync.specs.Synced.{with_parents, with_parents_by, without_below}
 use Rattle.lfs_sync.specs.declared.sync_row.SyncRow.{SyncRow}
 use Rattle.lfs_sync.proofs.HeldLemmas.{trees_are_rooted}
 use Rattle.lfs_sync.proofs.NamedLemmas.{held_named, make_named, put_named, remove_named, sync_named, wanted_named}
@@ -37,7 +37,7 @@ use Rattle.lfs_sync.proofs.RemovedLemmas.{removed_is_without, without_inside}
 use Rattle.lfs_sync.proofs.RowLemmas.{rows_bare, rows_named, rows_right}
 use Rattle.lfs_sync.proofs.SpelledLemmas.{AsksAt, none_spelled, one_command}
 use Rattle.lfs_sync.proofs.SyncedLemmas.{equal_by_rows, synced_by_rows}
-use Rattle.lfs_step.specs.TreeChanging.{AsksFor, Changing, IsAskedOf, IsChangeInRange}
+use Rattle.lfs_step.specs.TreeChanging.{ChangeAsksFor, Changing, IsAskedOf, IsChangeInRange}
 use Rattle.lfs_step.specs.TreeLaws.{PutsFile, said, text_of}
 
 -- ---- trees that are the same at each path
@@ -104,7 +104,7 @@ pub record SaysCommands (changing : Changing) (range : IsChangeInRange changing)
   pub commands : List Command
   pub are : asked ≡ in_texts commands
   pub named : All HasNames commands
-  pub make : (p : Path) → equations commands t p ≡ said changing range path t p
+  pub make : (p : Path) → equations_of commands t p ≡ said changing range path t p
 
 module _ (texts : TextsSpellOnePath) (one : VolumesAreOne) (order : PathsAreOrdered) (held : RowsAreHeld) (d : Disk) (m : MountedValue)
     (asked : List Asked) (disk : IsDisk d) (is : IsMountOf d m) (takes : TakesOne d asked) where
@@ -132,7 +132,7 @@ module _ (texts : TextsSpellOnePath) (one : VolumesAreOne) (order : PathsAreOrde
           let new = made_new is.volume path (accepted (Mkdir path) (one_path path names) (are ∙ ap in_texts lone)) in
           absurd (not_both (ap (λ (o : Option Node). is_some o) at) new)
 
-  removed : (at : Bor (List ℕ)) (range : _) → AsksFor (change.Remove at) d m t asked → SaysCommands (change.Remove at) range t asked
+  removed : (at : Bor (List ℕ)) (range : _) → ChangeAsksFor (change.Remove at) d m t asked → SaysCommands (change.Remove at) range t asked
   removed at range (inl (path, spelled, are)) = by path spelled are
     where
       by : (p : Path) → IsPathText at.now p → asked ≡ in_texts (remove_commands p (rows_at p)) → SaysCommands (change.Remove at) range t asked
@@ -148,7 +148,7 @@ module _ (texts : TextsSpellOnePath) (one : VolumesAreOne) (order : PathsAreOrde
       }
   removed at range (inr (none, are)) = absurd (no_path at.now (Rm at.now) d asked refl none are takes)
 
-  made : (at : Bor (List ℕ)) (range : _) → AsksFor (change.Make at) d m t asked → SaysCommands (change.Make at) range t asked
+  made : (at : Bor (List ℕ)) (range : _) → ChangeAsksFor (change.Make at) d m t asked → SaysCommands (change.Make at) range t asked
   made at range (inl (path, spelled, are)) = record {
     path = path;
     spelled = spelled;
@@ -159,7 +159,7 @@ module _ (texts : TextsSpellOnePath) (one : VolumesAreOne) (order : PathsAreOrde
   }
   made at range (inr (none, are)) = absurd (no_path at.now (Mkdir at.now) d asked refl none are takes)
 
-  put : (at bytes : Bor (List ℕ)) (range : _) → AsksFor (change.Put at bytes) d m t asked → SaysCommands (change.Put at bytes) range t asked
+  put : (at bytes : Bor (List ℕ)) (range : _) → ChangeAsksFor (change.Put at bytes) d m t asked → SaysCommands (change.Put at bytes) range t asked
   put at bytes range (inl (path, spelled, are)) = record {
     path = path;
     spelled = spelled;
@@ -185,7 +185,7 @@ module _ (texts : TextsSpellOnePath) (one : VolumesAreOne) (order : PathsAreOrde
       }
   became at rows range (inr (none, are)) = absurd (no_path at.now (Mkdir at.now) d asked refl none are takes)
 
-  pub says_commands : (changing : Changing) (range : IsChangeInRange changing) → AsksFor changing d m t asked
+  pub says_commands : (changing : Changing) (range : IsChangeInRange changing) → ChangeAsksFor changing d m t asked
       → SaysCommands changing range t asked
   says_commands (change.Remove at) range asks = removed at range asks
   says_commands (change.Make at) range asks = made at range asks
@@ -203,7 +203,7 @@ module _ (texts : TextsSpellOnePath) (one : VolumesAreOne) (order : PathsAreOrde
       not_both (ap (λ (o : Option Node). is_none o) nothing) there
   none_removed n p (r ∷ rows) names are commands none = none-some r.node (sym (none r.path) ∙ are.right.0)
 
-  remove_nothing : (at : List ℕ) (path : Path) → IsPathText at path → ((p : Path) → without path t p ≡ t p)
+  remove_nothing : (at : List ℕ) (path : Path) → IsPathText at path → ((p : Path) → without_below path t p ≡ t p)
       → asked ≡ in_texts (remove_commands path (rows_at path)) → ⊥
   remove_nothing at [] spelled same are = root_stays is.volume (accepted (Rm []) (one_path [] spelled.0) are)
   remove_nothing at (n ∷ p) spelled same are =
@@ -227,7 +227,7 @@ module _ (texts : TextsSpellOnePath) (one : VolumesAreOne) (order : PathsAreOrde
       subst (λ (p : Path). asked ≡ in_texts (commands p)) (texts text q path spells spelled) are
   at_path text wrong commands path at spelled (inr (none, are)) = absurd (none path spelled)
 
-  pub no_commands : (changing : Changing) (range : IsChangeInRange changing) (path : Path) → AsksFor changing d m t asked → ¬ PutsFile changing
+  pub no_commands : (changing : Changing) (range : IsChangeInRange changing) (path : Path) → ChangeAsksFor changing d m t asked → ¬ PutsFile changing
       → IsPathText (text_of changing) path → ((p : Path) → said changing range path t p ≡ t p) → asked ≡ []
   no_commands (change.Remove at) range path asks other spelled same =
       absurd (remove_nothing at.now path spelled same

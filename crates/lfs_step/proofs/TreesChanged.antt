@@ -19,15 +19,15 @@ use Rattle.lfs_change.specs.Change.{Denotes, IsChanged}
 use Rattle.lfs_change.specs.TogetherLaws.{BytesAreChangedTogether}
 use Rattle.lfs_change.proofs.ChangeLemmas.{denoted_present, one_taken}
 use Rattle.lfs_sync.specs.SyncLaws.{RowsAreHeld, TextsSpellTheirCommands}
-use Rattle.lfs_sync.specs.Synced.{equations}
+use Rattle.lfs_sync.specs.Synced.{equations_of}
 use Rattle.lfs_step.specs.declared.step.Step.TheVariants.{Tree}
 use Rattle.lfs_step.specs.Outcome.{Given}
 use Rattle.lfs_step.specs.TreeLaws.{EqualTreesStay, TreesAreChanged, said}
 use Rattle.lfs_step.proofs.EquationsMet.{done}
 use Rattle.lfs_step.proofs.TreeSaid.{TakesOne, no_commands, same_said, says_commands}
 
--- equations one after another, as a history has them
-same_equations : (cs : List Command) (t : Path → Option Node) (p : Path) → equations_together cs t p ≡ equations cs t p
+-- equations_of one after another, as a history has them
+same_equations : (cs : List Command) (t : Path → Option Node) (p : Path) → equations_together cs t p ≡ equations_of cs t p
 same_equations [] t p = refl
 same_equations (c ∷ cs) t p = same_equations cs (equation c t) p
 

@@ -13,7 +13,7 @@ use Rattle.lfs_listing.specs.Below.{digests_at, listing_at}
 use Rattle.lfs_step.specs.Contents.{RefusesPath}
 
 -- the text spells a path, at which the tree of a mounted image has something
-pub record IsThere (d : Disk) (m : MountedValue) (text : List ℕ) (at : Path) : Type 0 where
+pub record IsPathThere (d : Disk) (m : MountedValue) (text : List ℕ) (at : Path) : Type 0 where
   pub spelled : IsPathText text at
   pub there : (is : IsMountOf d m) → is_some (tree is.volume at) ≡ true
 
@@ -27,7 +27,7 @@ pub record IsListing (form : Form) (digests : Bool) (d : Disk) (path text : List
   pub mounted : MountedValue
   pub mounts : IsMountOf d mounted
   pub at : Path
-  pub there : IsThere d mounted path at
+  pub there : IsPathThere d mounted path at
   pub text_is : text ≡ listing_text form digests d at mounted.rows
 
 -- the checks of a path at which something is to be: the walk, and whether something is there

@@ -25,12 +25,12 @@ log_behind form number done d m (e ∷ es) (k ∷ ks) =
 log_behind form number done d m _ _ = []
 
 -- the text of the changes between images, from a number on
-abbrev pub log_from : Form → ℕ → ℕ → List Disk → List MountedValue → List ℕ
-log_from form number done (d ∷ ds) (m ∷ ms) = log_behind form number done d m ds ms
-log_from form number done _ _ = []
+abbrev pub history_text_from : Form → ℕ → ℕ → List Disk → List MountedValue → List ℕ
+history_text_from form number done (d ∷ ds) (m ∷ ms) = log_behind form number done d m ds ms
+history_text_from form number done _ _ = []
 
 -- the text of a history, in a form: each of its images mounts, and between each two of them stands a change
-pub record IsLog (form : Form) (h : History) (text : List ℕ) : Type 0 where
+pub record IsHistoryLog (form : Form) (h : History) (text : List ℕ) : Type 0 where
   pub mounts : List MountedValue
   pub are : AllZip IsMountOf (images h) mounts
-  pub text_is : text ≡ log_from form 1 (length h.done) (images h) mounts
+  pub text_is : text ≡ history_text_from form 1 (length h.done) (images h) mounts

@@ -11,13 +11,13 @@ use Rattle.lfs_request.specs.declared.fault.Fault.TheVariants.{Mount, Refused, J
 use Rattle.lfs_change.specs.Change.{DenotesOn, RefusesJournal}
 use Rattle.lfs_host.specs.Send.{SendsBeginning}
 use Rattle.lfs_json.specs.declared.form.Form.{Form}
-use Rattle.lfs_step.specs.Log.{IsLog}
+use Rattle.lfs_step.specs.Log.{IsHistoryLog}
 
 -- the text is that of the history which an image and the bytes of a journal denote, in a form
 pub record IsRecount (form : Form) (d : Disk) (journal text : List ℕ) : Type 0 where
   pub history : History
   pub denotes : DenotesOn d journal history
-  pub log : IsLog form history text
+  pub log : IsHistoryLog form history text
 
 -- Why nothing, or not all, is told of an image's changes: a cause that it has, then what its journal is refused for, as where a change is
 -- taken back; want of memory, or standard output.

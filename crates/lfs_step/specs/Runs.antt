@@ -31,10 +31,10 @@ abbrev pub left_files : Outcome → BothFiles
 left_files outcome = record { image = outcome.image.items; journal = outcome.journal.items }
 
 -- each run is handed the image and the journal that the one before left
-abbrev pub AreRuns : ℕ → List Ran → BothFiles → BothFiles → Type 0
-AreRuns size [] old new = new ≡ old
-AreRuns size (r ∷ rs) old new =
-    Answers r.step (given size old.image old.journal) r.outcome × AreRuns size rs (left_files r.outcome) new
+abbrev pub AreRunsInTurn : ℕ → List Ran → BothFiles → BothFiles → Type 0
+AreRunsInTurn size [] old new = new ≡ old
+AreRunsInTurn size (r ∷ rs) old new =
+    Answers r.step (given size old.image old.journal) r.outcome × AreRunsInTurn size rs (left_files r.outcome) new
 
 -- rows that are packed say what is packed, as it is taken
 abbrev pub HasGoodRows : Step → Type 0
@@ -76,4 +76,4 @@ pub record LeadTo (size : ℕ) (rs : List Ran) (first last : BothFiles) (old : H
 -- the law: a list of runs leads from the history that the first image and journal denote to the one that the last denote
 abbrev pub RunsGoOn : Type 0
 RunsGoOn = (size : ℕ) (rs : List Ran) (first last : BothFiles) (old : History) → AllByRecursion (λ r. HasGoodRows r.step) rs
-    → Denotes size first.image first.journal old → AreRuns size rs first last → LeadTo size rs first last old
+    → Denotes size first.image first.journal old → AreRunsInTurn size rs first last → LeadTo size rs first last old

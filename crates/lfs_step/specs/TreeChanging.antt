@@ -15,7 +15,7 @@ use Rattle.lfs_request.specs.declared.tree_change.TreeChange.TheVariants as chan
 use Rattle.lfs_change.specs.Change.{RefusesChange}
 use Rattle.lfs_sync.specs.Planned.{in_texts}
 use Rattle.lfs_sync.specs.Shown.{Shown, held_of}
-use Rattle.lfs_sync.specs.SyncRows.{AreRowsOf, SayFolder}
+use Rattle.lfs_sync.specs.SyncRows.{AreRowsOfFolder, SayFolder}
 use Rattle.lfs_sync.specs.Synced.{make_commands, put_commands, remove_commands, sync_commands}
 use Rattle.lfs_sync.specs.declared.sync_row.SyncRow.{SyncRow}
 
@@ -30,19 +30,19 @@ IsAskedOf text wrong commands asked =
     ⊎ (IsNoPath text × (asked ≡ wrong ∷ []))
 
 -- the commands that a change is on an image that mounts to this, which shows the tree
-abbrev pub AsksFor : Changing → Disk → MountedValue → (Path → Option Node) → List Asked → Type 0
-AsksFor (change.Remove at) d m t asked = IsAskedOf at.now (Rm at.now) (λ path. remove_commands path (held_of d path m.rows)) asked
-AsksFor (change.Make at) d m t asked = IsAskedOf at.now (Mkdir at.now) (make_commands t) asked
-AsksFor (change.Put at bytes) d m t asked = IsAskedOf at.now (Put at.now bytes.now) (λ path. put_commands t path bytes.now) asked
-AsksFor (change.Sync at rows) d m t asked =
-    (wanted : List Shown) → AreRowsOf rows.now wanted
+abbrev pub ChangeAsksFor : Changing → Disk → MountedValue → (Path → Option Node) → List Asked → Type 0
+ChangeAsksFor (change.Remove at) d m t asked = IsAskedOf at.now (Rm at.now) (λ path. remove_commands path (held_of d path m.rows)) asked
+ChangeAsksFor (change.Make at) d m t asked = IsAskedOf at.now (Mkdir at.now) (make_commands t) asked
+ChangeAsksFor (change.Put at bytes) d m t asked = IsAskedOf at.now (Put at.now bytes.now) (λ path. put_commands t path bytes.now) asked
+ChangeAsksFor (change.Sync at rows) d m t asked =
+    (wanted : List Shown) → AreRowsOfFolder rows.now wanted
     → IsAskedOf at.now (Mkdir at.now) (λ path. sync_commands path (held_of d path m.rows) wanted) asked
 
 -- those that it is on an image
 pub record IsAsked (changing : Changing) (d : Disk) (asked : List Asked) : Type 0 where
   pub mounted : MountedValue
   pub mounts : IsMountOf d mounted
-  pub asks : AsksFor changing d mounted (tree mounts.volume) asked
+  pub asks : ChangeAsksFor changing d mounted (tree mounts.volume) asked
 
 -- rows of a folder say what some folder has
 abbrev pub IsChangeInRange : Changing → Type 0

@@ -9,7 +9,7 @@ use Rattle.lfs_request.specs.declared.tree_change.TreeChange.TheVariants as chan
 use Rattle.lfs_step.specs.declared.step.Step.TheVariants.{Tree}
 use Rattle.lfs_step.specs.Outcome.{Answers, Given}
 use Rattle.lfs_step.specs.TreeChanging.{Changing, IsChangeInRange}
-use Rattle.lfs_sync.specs.Synced.{synced, with_file, with_parents, without}
+use Rattle.lfs_sync.specs.Synced.{synced, with_file, with_parents, without_below}
 
 -- the text of its path
 abbrev pub text_of : Changing → List ℕ
@@ -18,9 +18,9 @@ text_of (change.Make at) = at.now
 text_of (change.Put at bytes) = at.now
 text_of (change.Sync at rows) = at.now
 
--- the tree that a change says at its path: without what is there, with a directory or a file there, or with what the folder has
+-- the tree that a change says at its path: without_below what is there, with a directory or a file there, or with what the folder has
 abbrev pub said : (changing : Changing) → IsChangeInRange changing → Path → (Path → Option Node) → Path → Option Node
-said (change.Remove at) range path tree = without path tree
+said (change.Remove at) range path tree = without_below path tree
 said (change.Make at) range path tree = with_parents path tree
 said (change.Put at bytes) range path tree = with_file path bytes.now tree
 said (change.Sync at rows) range path tree = synced path range.0 tree

@@ -3,7 +3,7 @@
 ghost use Rattle.std.specs.Prelude.{◌≡◌, IfOk, IfErr};
 ghost use Rattle.lfs_history.specs.History.{History};
 ghost use Rattle.lfs_history.specs.Opening.{Opens, RefusesOpening};
-ghost use Rattle.lfs_step.specs.Log.{IsLog};
+ghost use Rattle.lfs_step.specs.Log.{IsHistoryLog};
 
 use crate::course::Course;
 use crate::mounting::erased_block;
@@ -27,7 +27,7 @@ pub fn log_of(
     image: &mut Image,
     journal: &[u8],
 ) -> Result<Vec<u8>, OpenFault>
-    ensures text { IfOk result (λ text. (h : History) × Opens image.old.disk journal.now h × IsLog form h text.items) }
+    ensures text { IfOk result (λ text. (h : History) × Opens image.old.disk journal.now h × IsHistoryLog form h text.items) }
     ensures refused { IfErr result (λ fault. RefusesOpening fault image.old.disk journal.now) }
     ensures disk { image.new.disk ≡ image.old.disk }
 {

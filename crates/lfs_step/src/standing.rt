@@ -4,7 +4,7 @@ ghost use Rattle.std.specs.Prelude.{IfErr, IfOk};
 ghost use Rattle.lfs_fs.specs.Mounted.{IsMountOf};
 ghost use Rattle.lfs_listing.specs.Below.{names};
 ghost use Rattle.lfs_step.specs.DirectoryThere.{IsDirectoryThere, RefusesDirectory};
-ghost use Rattle.lfs_step.specs.Listed.{IsThere, RefusesListing};
+ghost use Rattle.lfs_step.specs.Listed.{IsPathThere, RefusesListing};
 
 use lfs_block::Blocks;
 use lfs_command::{Refusal, names_of};
@@ -23,7 +23,7 @@ pub(crate) fn names_there<'a, B: Blocks>(
     path: &'a [u8],
 ) -> Result<Vec<&'a [u8]>, Refusal>
     requires { IsMountOf (B.disk disk.now) mounted.now }
-    ensures there { IfOk result (λ at. IsThere (B.disk disk.now) mounted.now path.now (names at.items)) }
+    ensures there { IfOk result (λ at. IsPathThere (B.disk disk.now) mounted.now path.now (names at.items)) }
     ensures refused { IfErr result (λ refusal. RefusesListing (B.disk disk.now) path.now refusal) }
 {
     rows_show_the_tree();

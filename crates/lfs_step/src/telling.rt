@@ -9,7 +9,7 @@ ghost use Rattle.lfs_session.specs.Known.{HasRoom};
 ghost use Rattle.lfs_session.specs.Opened.{RefusesMounts};
 ghost use Rattle.lfs_listing.specs.Comparing.{Leads};
 ghost use Rattle.lfs_listing.specs.Difference.{difference};
-ghost use Rattle.lfs_step.specs.Between.{IsBetween, TellsAll, TellsOn, images_at, later_at};
+ghost use Rattle.lfs_step.specs.Between.{IsBetween, TellsAll, TellsOn, images_at, images_behind};
 ghost use Rattle.lfs_step.specs.Log.{change_line};
 
 use crate::course::Course;
@@ -80,7 +80,7 @@ fn tell_on(
     requires works { text.old.has_failed ≡ false }
     ensures told { OnOk result (TellsOn course.now.form image.old.disk mounted.old course.now.patches.now at course.now.done
         text.old.bytes.items text.new.bytes.items) }
-    ensures refused { IfErr result (λ fault. RefusesMounts fault (later_at image.old.disk course.now.patches.now at)) }
+    ensures refused { IfErr result (λ fault. RefusesMounts fault (images_behind image.old.disk course.now.patches.now at)) }
     ensures disk { image.new.disk ≡ image.old.disk }
     ensures room { image.new.room ≡ image.old.room }
 {

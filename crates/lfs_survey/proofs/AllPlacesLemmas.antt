@@ -8,7 +8,7 @@ use Rattle.std.proofs.lemmas.List.FromFn.{map-range_with_len_more}
 use Rattle.std.proofs.lemmas.Option.{slice_get-get_or}
 use mathlib.Core.Logic.{inl, inr}
 use Rattle.lfs_meta.specs.Body.{Pair}
-use Rattle.lfs_survey.specs.AllPlaces.{IsFirstOf, area_places, places_from}
+use Rattle.lfs_survey.specs.AllPlaces.{IsFirstOf, area_places, area_places_from}
 use Rattle.lfs_survey.specs.Faults.{TailIsPast}
 use Rattle.lfs_survey.specs.Survey.{found_tail}
 use Rattle.lfs_survey.specs.declared.area.Area.{Area}
@@ -48,25 +48,25 @@ tail_past count f t false is not_past = λ h.
 
 -- ---- places
 
-places_push : (n : ℕ) (areas : List Area) (a : Area) → places_from n (areas ++ a ∷ [])
-    ≡ places_from n areas ++ area_places (n + length areas) (length a.found.items)
+places_push : (n : ℕ) (areas : List Area) (a : Area) → area_places_from n (areas ++ a ∷ [])
+    ≡ area_places_from n areas ++ area_places (n + length areas) (length a.found.items)
 places_push n [] a =
     append-nil (area_places n (length a.found.items)) ∙ ap (λ (m : ℕ). area_places m (length a.found.items)) (omega arith)
 places_push n (x ∷ areas) a =
     let here = area_places n (length x.found.items) in
     let rest = places_push (suc n) areas a in
     ap (λ (ps : List Place). here ++ ps) rest
-    ∙ ap (λ (m : ℕ). here ++ (places_from (suc n) areas ++ area_places m (length a.found.items))) (omega arith)
-    ∙ sym (append_assoc here (places_from (suc n) areas) (area_places (n + suc (length areas)) (length a.found.items)))
+    ∙ ap (λ (m : ℕ). here ++ (area_places_from (suc n) areas ++ area_places m (length a.found.items))) (omega arith)
+    ∙ sym (append_assoc here (area_places_from (suc n) areas) (area_places (n + suc (length areas)) (length a.found.items)))
 
 -- those of one area more
 pub places_more : (i : ℕ) (areas : List Area) (a : Area) (old new : List Place) → i < length areas → a ≡ get_or areas i a
-    → old ≡ places_from 0 (take i areas) → new ≡ old ++ area_places i (length a.found.items) → new ≡ places_from 0 (take (i + 1) areas)
+    → old ≡ area_places_from 0 (take i areas) → new ≡ old ++ area_places i (length a.found.items) → new ≡ area_places_from 0 (take (i + 1) areas)
 places_more i areas a old new within is before added =
     let long : length (take i areas) ≡ i = length-take-le i areas (omega arith) in
     added ∙ ap (λ (ps : List Place). ps ++ area_places i (length a.found.items)) before
-    ∙ ap (λ (m : ℕ). places_from 0 (take i areas) ++ area_places m (length a.found.items)) (omega arith)
-    ∙ sym (ap (places_from 0) (take_more areas i a within ∙ ap (λ (x : Area). take i areas ++ x ∷ []) (sym is))
+    ∙ ap (λ (m : ℕ). area_places_from 0 (take i areas) ++ area_places m (length a.found.items)) (omega arith)
+    ∙ sym (ap (area_places_from 0) (take_more areas i a within ∙ ap (λ (x : Area). take i areas ++ x ∷ []) (sym is))
     ∙ places_push 0 (take i areas) a)
 
 -- ---- chains that are known

@@ -17,7 +17,7 @@ use Rattle.lfs_meta.specs.Laws.{UnreadPairsHoldNoPart}
 use Rattle.lfs_meta.specs.LiveBlock.{stored_part_of}
 use Rattle.lfs_meta.specs.Part.{StoredPart}
 use Rattle.lfs_survey.specs.Looking.{Grows, is_open}
-use Rattle.lfs_survey.specs.Lone.{NoneIsLeft, alone, body_pairs, entries_pairs, is_lone, lone_pairs, marked_by, names}
+use Rattle.lfs_survey.specs.Lone.{NoneIsLeft, alone, body_pairs, entries_pairs, is_lone, lone_pairs, marked_by, pairs_named}
 
 -- ---- one pair
 
@@ -55,17 +55,17 @@ lone_more d looked n = filter_of_map_range_with_len_more (is_lone d looked) alon
 -- the pairs so far, with the blocks that their parts name
 pub record IsFinding (d : Disk) (looked before now : List Bool) (pairs : List Pair) (n : ℕ) : Type 0 where
   pub pairs_are : pairs ≡ lone_pairs d looked n
-  pub named : now ≡ marked_by before (names d pairs)
+  pub named : now ≡ marked_by before (pairs_named d pairs)
 
 pub finding_more : (d : Disk) (looked before now next : List Bool) (pairs new : List Pair) (n : ℕ) → IsFinding d looked before now pairs n
     → new ≡ pairs ++ cond (is_lone d looked (alone n)) (alone n ∷ []) []
-    → next ≡ marked_by now (names d (cond (is_lone d looked (alone n)) (alone n ∷ []) [])) → IsFinding d looked before next new (n + 1)
+    → next ≡ marked_by now (pairs_named d (cond (is_lone d looked (alone n)) (alone n ∷ []) [])) → IsFinding d looked before next new (n + 1)
 finding_more d looked before now next pairs new n h push mark =
     let one = cond (is_lone d looked (alone n)) (alone n ∷ []) [] in
     record {
       pairs_are = push ∙ ap (λ (ps : List Pair). ps ++ one) h.pairs_are ∙ sym (lone_more d looked n);
-      named = mark ∙ ap (λ (t : List Bool). marked_by t (names d one)) h.named ∙ sym (marked_append before (names d pairs) (names d one))
-          ∙ ap (marked_by before) (sym (ap (names d) push ∙ flat_map-append _ pairs one));
+      named = mark ∙ ap (λ (t : List Bool). marked_by t (pairs_named d one)) h.named ∙ sym (marked_append before (pairs_named d pairs) (pairs_named d one))
+          ∙ ap (marked_by before) (sym (ap (pairs_named d) push ∙ flat_map-append _ pairs one));
     }
 
 -- ---- no block is left

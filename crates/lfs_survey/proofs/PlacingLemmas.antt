@@ -5,14 +5,14 @@ use Rattle.std.proofs.lemmas.List.Elements.{All-more}
 use Rattle.std.proofs.lemmas.List.{take_all}
 use Rattle.std.proofs.lemmas.Option.{slice_get_read}
 use Rattle.lfs_block.specs.declared.mount_fault.MountFault.{MountFault}
-use Rattle.lfs_survey.specs.Place.{HasNone, IsFirstIn, IsFirstPlace}
+use Rattle.lfs_survey.specs.Place.{HasNone, IsFirstIn, IsPlaceOfFault}
 use Rattle.lfs_survey.specs.declared.area.Area.{Area}
 use Rattle.lfs_survey.specs.declared.found.Found.{Found}
 
 module _ (fault : MountFault) (items areas : List Area) (i : ℕ) (a : Area) (fs : List Found) where
   -- an area that has one
   pub place_found : (n : ℕ) → items ≡ areas → i < length items → a ≡ get_or items i a → fs ≡ a.found.items → IsFirstIn fault fs (Some n)
-      → All (λ b. HasNone fault b.found.items) (take i areas) → IsFirstPlace fault areas (Some (record { area = i; call = n }))
+      → All (λ b. HasNone fault b.found.items) (take i areas) → IsPlaceOfFault fault areas (Some (record { area = i; call = n }))
   place_found n same within is found first none = (
     a,
     subst (λ (xs : List Area). slice_get xs i ≡ Some a) same (slice_get_read items (length items) i a refl within is),

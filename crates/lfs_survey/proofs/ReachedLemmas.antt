@@ -16,7 +16,7 @@ use Rattle.lfs_meta.specs.declared.tail.Tail.{Tail}
 use Rattle.lfs_survey.specs.Area.{AreFound, IsArea}
 use Rattle.lfs_survey.specs.Calls.{body_calls, calls_from, entries_call, found_calls, start_call, tail_calls}
 use Rattle.lfs_survey.specs.Looking.{IsFound, IsRefused, looked_behind}
-use Rattle.lfs_survey.specs.Reached.{AreasAreComplete, FoundAs, IsCalled, IsTurnedAway, Leads, Trail}
+use Rattle.lfs_survey.specs.Reached.{AreasAreComplete, FoundAs, IsCalled, IsTurnedAway, LeadsToPair, Trail}
 use Rattle.lfs_survey.specs.declared.area.Area.{Area}
 use Rattle.lfs_survey.specs.declared.call.Call.{Call}
 use Rattle.lfs_survey.specs.declared.found.Found.{Found}
@@ -44,7 +44,7 @@ entries_called from index (x ∷ es) e q (suc k, within, is) at =
     calls_right (body_calls (Entry from index) x.body) (entries_call from (suc index) es) q
     (entries_called from (suc index) es e q (k, omega (arith, within), is) at)
 
-found_called : (from : ℕ) (p : Pair × StoredPart) (q : Pair) → Leads p.1 q → Calls (found_calls from (Part p)) q
+found_called : (from : ℕ) (p : Pair × StoredPart) (q : Pair) → LeadsToPair p.1 q → Calls (found_calls from (Part p)) q
 found_called from p q (inl (e, has, at)) =
     calls_left (entries_call from 0 p.1.entries) (tail_calls from p.1.tail) q (entries_called from 0 p.1.entries e q has at)
 found_called from p q (inr at) =
@@ -52,7 +52,7 @@ found_called from p q (inr at) =
     (subst (λ (t : Tail). Calls (tail_calls from t) q) (sym at) (record { way = Next from; pair = q }, (0, omega arith, refl), refl))
 
 all_called : (from : ℕ) (cs : List Call) (fs : List Found) (c : Call) (p : Pair × StoredPart) (q : Pair) → FoundAs cs fs c (Part p)
-    → Leads p.1 q → Calls (calls_from from fs) q
+    → LeadsToPair p.1 q → Calls (calls_from from fs) q
 all_called from [] fs c p q found leads = absurd found
 all_called from (x ∷ cs) [] c p q found leads = absurd found
 all_called from (x ∷ cs) (y ∷ fs) c p q (inl here) leads =
@@ -84,7 +84,7 @@ any_later : {X : Type 0} (P : X → Type 0) (x : X) (xs : List X) → Any P xs �
 any_later P x xs (k, y, within, is, p) = (suc k, y, omega (arith, within), is, p)
 
 module _ (d : Disk) (looked : List Bool) (start : Pair) (a : Area) (none : UnreadPairsHoldNoPart) (h : IsArea d looked start a) where
-  next_called : (c : Call) (p : Pair × StoredPart) (m : Pair) → FoundAs a.calls.items a.found.items c (Part p) → Leads p.1 m → IsCalled a m
+  next_called : (c : Call) (p : Pair × StoredPart) (m : Pair) → FoundAs a.calls.items a.found.items c (Part p) → LeadsToPair p.1 m → IsCalled a m
   next_called c p m found leads =
       subst (λ (cs : List Call). Calls cs m) (sym h.called)
       (calls_right (start_call start ∷ []) (calls_from 0 a.found.items) m
@@ -92,11 +92,11 @@ module _ (d : Disk) (looked : List Bool) (start : Pair) (a : Area) (none : Unrea
 
   -- a pair on a trail leads on, or was turned away
   leads_on : (c : Call) (f : Found) (p m : Pair) (s : StoredPart) (now : List Bool) → FoundAs a.calls.items a.found.items c f → c.pair ≡ p
-      → IsFound d now c.pair f → stored_part_of d p ≡ Some s → Leads s m → IsCalled a m ⊎ IsTurnedAway a p
+      → IsFound d now c.pair f → stored_part_of d p ≡ Some s → LeadsToPair s m → IsCalled a m ⊎ IsTurnedAway a p
   leads_on c (Part x) p m s now found at is holds leads =
       let held : stored_part_of d p ≡ Some x.1 = subst (λ (r : Pair). stored_part_of d r ≡ Some x.1) at is.2 in
       let same : s ≡ x.1 = cc in
-      inl (next_called c x m found (subst (λ (t : StoredPart). Leads t m) same leads))
+      inl (next_called c x m found (subst (λ (t : StoredPart). LeadsToPair t m) same leads))
   leads_on c (Refused fault) p m s now found at is holds leads =
       inr (
         c,

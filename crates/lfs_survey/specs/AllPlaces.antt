@@ -24,21 +24,21 @@ found_entries (Part p) = p.1.entries
 found_entries (Refused fault) = []
 
 -- the entry there
-abbrev pub entry_at : List Area → EntryPlace → Option StoredEntry
-entry_at areas p = option_and_then (λ (f : Found). slice_get (found_entries f) p.entry) (found_at areas p.at)
+abbrev pub entry_at_place : List Area → EntryPlace → Option StoredEntry
+entry_at_place areas p = option_and_then (λ (f : Found). slice_get (found_entries f) p.entry) (found_at areas p.at)
 
 -- the places of so many calls of the area of this number
 abbrev pub area_places : ℕ → ℕ → List Place
 area_places area n = map (λ call. record { area = area; call = call }) (range_with_len 0 n)
 
 -- those of areas, of which the first has this number
-abbrev pub places_from : ℕ → List Area → List Place
-places_from n [] = []
-places_from n (a ∷ more) = area_places n (length a.found.items) ++ places_from (suc n) more
+abbrev pub area_places_from : ℕ → List Area → List Place
+area_places_from n [] = []
+area_places_from n (a ∷ more) = area_places n (length a.found.items) ++ area_places_from (suc n) more
 
 -- all places, in order
 abbrev pub places_of : List Area → List Place
-places_of areas = places_from 0 areas
+places_of areas = area_places_from 0 areas
 
 -- the places of entries of what is found at a place
 abbrev pub entry_places_at : Place → Option Found → List EntryPlace

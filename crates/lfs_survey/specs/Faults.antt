@@ -10,7 +10,7 @@ use Rattle.lfs_fs.specs.declared.limits.Limits.{Limits}
 use Rattle.lfs_meta.specs.Body.{Pair, StoredBody, Inline, Chain, Directory_at}
 use Rattle.lfs_meta.specs.Entry.{StoredEntry}
 use Rattle.lfs_meta.specs.declared.kind.Kind.TheVariants.{Super}
-use Rattle.lfs_survey.specs.AllPlaces.{entry_at, found_at, found_entries}
+use Rattle.lfs_survey.specs.AllPlaces.{entry_at_place, found_at, found_entries}
 use Rattle.lfs_survey.specs.Survey.{found_tail}
 use Rattle.lfs_survey.specs.declared.area.Area.{Area}
 use Rattle.lfs_survey.specs.declared.call.Call.{Call}
@@ -22,7 +22,7 @@ use Rattle.lfs_survey.specs.declared.way.Way.TheVariants.{Start, Entry, Next}
 
 -- the entry there is of these
 abbrev pub EntryIs : (StoredEntry → Type 0) → List Area → EntryPlace → Type 0
-EntryIs these areas p = (e : StoredEntry) × (entry_at areas p ≡ Some e) × these e
+EntryIs these areas p = (e : StoredEntry) × (entry_at_place areas p ≡ Some e) × these e
 
 -- a file's blocks are no chain
 abbrev pub LacksChain : Disk → StoredBody → Type 0
@@ -35,8 +35,8 @@ abbrev pub KnowsChains : Disk → List ℕ → Type 0
 KnowsChains d known = (head size : ℕ) → slice_get known head ≡ Some size → (found : List ℕ) × (chain_of d head size ≡ Some found)
 
 -- the entry there is such a file's
-abbrev pub HasNoChain : Disk → List Area → EntryPlace → Type 0
-HasNoChain d areas p = EntryIs (λ e. LacksChain d e.body) areas p
+abbrev pub EntryHasNoChain : Disk → List Area → EntryPlace → Type 0
+EntryHasNoChain d areas p = EntryIs (λ e. LacksChain d e.body) areas p
 
 -- an entry stands behind one before which its name comes, neither of which is a superblock
 abbrev pub AreMisordered : StoredEntry → StoredEntry → Type 0
@@ -61,11 +61,11 @@ entry_before_part areas p =
 -- the entry before the one there in its directory
 abbrev pub entry_before : List Area → EntryPlace → Option StoredEntry
 entry_before areas p =
-    if p.entry == 0 then entry_before_part areas p.at else entry_at areas (record { at = p.at; entry = p.entry - 1 })
+    if p.entry == 0 then entry_before_part areas p.at else entry_at_place areas (record { at = p.at; entry = p.entry - 1 })
 
 -- the entry there stands behind one before which it comes
 abbrev pub IsMisplaced : List Area → EntryPlace → Type 0
-IsMisplaced areas p = (e f : StoredEntry) × (entry_before areas p ≡ Some e) × (entry_at areas p ≡ Some f) × AreMisordered e f
+IsMisplaced areas p = (e f : StoredEntry) × (entry_before areas p ≡ Some e) × (entry_at_place areas p ≡ Some f) × AreMisordered e f
 
 -- behind what is found the thread goes on past an image of so many blocks
 abbrev pub TailIsPast : ℕ → Found → Type 0

@@ -40,7 +40,7 @@ tail_pairs (Hard first second) = (first, second) ∷ []
 abbrev pub entries_pairs : List StoredEntry → List Pair
 entries_pairs es = flat_map (λ e. body_pairs e.body) es
 
--- the pairs that a part names, by its entries and its tail
+-- the pairs that a part pairs_named, by its entries and its tail
 abbrev pub part_pairs : StoredPart → List Pair
 part_pairs p = entries_pairs p.entries ++ tail_pairs p.tail
 
@@ -49,9 +49,9 @@ abbrev pub held_pairs : Option StoredPart → List Pair
 held_pairs None = []
 held_pairs (Some p) = part_pairs p
 
--- the pairs that what is held at these pairs names
-abbrev pub names : Disk → List Pair → List Pair
-names d ps = flat_map (λ p. held_pairs (stored_part_of d p)) ps
+-- the pairs that what is held at these pairs pairs_named
+abbrev pub pairs_named : Disk → List Pair → List Pair
+pairs_named d ps = flat_map (λ p. held_pairs (stored_part_of d p)) ps
 
 -- a table in which the blocks of pairs are marked
 abbrev pub marked_by : List Bool → List Pair → List Bool
@@ -62,10 +62,10 @@ marked_by table (p ∷ ps) = marked_by (slice_set (slice_set table p.0 true) p.1
 abbrev pub unmarked_pairs : List Bool → List Pair → List Pair
 unmarked_pairs table ps = filter (λ p. not (slice_index_or table p.0 true)) ps
 
--- the blocks by themselves that none of them names
+-- the blocks by themselves that none of them pairs_named
 abbrev pub unnamed_pairs : Disk → List Bool → List Pair
 unnamed_pairs d looked =
-    unmarked_pairs (marked_by (unlooked d) (names d (lone_pairs d looked d.count))) (lone_pairs d looked d.count)
+    unmarked_pairs (marked_by (unlooked d) (pairs_named d (lone_pairs d looked d.count))) (lone_pairs d looked d.count)
 
 -- a pair holds this part, or none
 abbrev pub HoldsAs : Disk → Pair → Option (Pair × StoredPart) → Type 0
@@ -78,7 +78,7 @@ pub record AreAlong (d : Disk) (before after : List Bool) (starts : List Pair) (
   pub looked : after ≡ behind_areas before areas
   pub closed : All (λ p. is_open after p ≡ false) (starts ++ tails_behind areas)
 
--- Areas of blocks by themselves: first from those on that none of them names, since they lead to the others as whole pairs; then from
+-- Areas of blocks by themselves: first from those on that none of them pairs_named, since they lead to the others as whole pairs; then from
 -- those that are left.
 pub record AreLone (d : Disk) (before after : List Bool) (areas : List Area) : Type 0 where
   pub first : List Area

@@ -22,9 +22,9 @@ IsFirstIn fault fs None = HasNone fault fs
 IsFirstIn fault fs (Some n) = (slice_get fs n ≡ Some (Refused fault)) × HasNone fault (take n fs)
 
 -- its place among areas, where there is one
-abbrev pub IsFirstPlace : MountFault → List Area → Option Place → Type 0
-IsFirstPlace fault areas None = All (λ a. HasNone fault a.found.items) areas
-IsFirstPlace fault areas (Some p) = (a : Area) × (slice_get areas p.area ≡ Some a) × IsFirstIn fault a.found.items (Some p.call)
+abbrev pub IsPlaceOfFault : MountFault → List Area → Option Place → Type 0
+IsPlaceOfFault fault areas None = All (λ a. HasNone fault a.found.items) areas
+IsPlaceOfFault fault areas (Some p) = (a : Area) × (slice_get areas p.area ≡ Some a) × IsFirstIn fault a.found.items (Some p.call)
     × All (λ b. HasNone fault b.found.items) (take p.area areas)
 
 -- the blocks that were looked at before a place: those of the areas before it, and those of the calls before it

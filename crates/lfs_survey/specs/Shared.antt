@@ -7,7 +7,7 @@ use Rattle.lfs_fs.specs.Used.{marked}
 use Rattle.lfs_fs.specs.Uses.{times}
 use Rattle.lfs_meta.specs.Body.{StoredBody, Inline, Chain, Directory_at}
 use Rattle.lfs_meta.specs.Entry.{StoredEntry}
-use Rattle.lfs_survey.specs.AllPlaces.{entry_at}
+use Rattle.lfs_survey.specs.AllPlaces.{entry_at_place}
 use Rattle.lfs_survey.specs.declared.area.Area.{Area}
 use Rattle.lfs_survey.specs.declared.entry_place.EntryPlace.{EntryPlace}
 
@@ -24,7 +24,7 @@ entry_chain d (Some e) = body_chain d e.body
 
 -- those of the entry at a place
 abbrev pub chain_at : Disk → List Area → EntryPlace → List ℕ
-chain_at d areas p = entry_chain d (entry_at areas p)
+chain_at d areas p = entry_chain d (entry_at_place areas p)
 
 -- those of the entries at several places
 abbrev pub chains : Disk → List Area → List EntryPlace → List ℕ

@@ -2,7 +2,7 @@
 
 ghost use Rattle.std.specs.Prelude.{◌≡◌, ◌++◌, IfOk, OnOk, flat_map, length};
 ghost use Rattle.std.specs.Option.{option_map};
-ghost use Rattle.lfs_survey.specs.AllPlaces.{area_places, call_at, entry_at, entry_places_at, entry_places_of, found_at, found_entries, places_of};
+ghost use Rattle.lfs_survey.specs.AllPlaces.{area_places, call_at, entry_at_place, entry_places_at, entry_places_of, found_at, found_entries, places_of};
 
 use crate::area::Area;
 use crate::call::Call;
@@ -39,7 +39,7 @@ pub(crate) fn found_entries(found: &Found) -> &[Entry]
 
 /// The entry at a place; `None` where there is none.
 pub fn entry_at(survey: &Survey, place: EntryPlace) -> Option<&Entry>
-    ensures { option_map (λ e. e.now) result ≡ entry_at survey.now.areas.items place }
+    ensures { option_map (λ e. e.now) result ≡ entry_at_place survey.now.areas.items place }
 {
     found_entries(found_at(survey, place.at)?).get(place.entry)
 }

@@ -4,7 +4,7 @@ ghost use Rattle.std.specs.Prelude.{◌≡◌, ℕ, List, true, MatchBool, None,
 ghost use Rattle.lfs_file.specs.SkipList.{chain_of};
 ghost use Rattle.lfs_meta.specs.BodyHeld.{body_held};
 ghost use Rattle.lfs_survey.specs.AllPlaces.{IsFirstOf, entry_places_of};
-ghost use Rattle.lfs_survey.specs.Faults.{HasNoChain, KnowsChains, LacksChain};
+ghost use Rattle.lfs_survey.specs.Faults.{EntryHasNoChain, KnowsChains, LacksChain};
 
 use crate::all_places::{entry_at, entry_places_of};
 use crate::entry_place::EntryPlace;
@@ -79,8 +79,8 @@ fn has_no_chain<B: Blocks>(
     place: EntryPlace,
 ) -> Result<bool, AllocError>
     requires { KnowsChains (B.disk blocks.now) known.old }
-    ensures lacks { IfOk result (λ lacks. MatchBool lacks (HasNoChain (B.disk blocks.now) survey.now.areas.items place)
-        (HasNoChain (B.disk blocks.now) survey.now.areas.items place → ⊥)) }
+    ensures lacks { IfOk result (λ lacks. MatchBool lacks (EntryHasNoChain (B.disk blocks.now) survey.now.areas.items place)
+        (EntryHasNoChain (B.disk blocks.now) survey.now.areas.items place → ⊥)) }
     ensures knows { KnowsChains (B.disk blocks.now) known.new }
 {
     match entry_at(survey, place) {
@@ -98,7 +98,7 @@ fn first_without_chain_in<B: Blocks>(
     places: &[EntryPlace],
 ) -> Result<Option<EntryPlace>, AllocError>
     requires { KnowsChains (B.disk blocks.now) known.old }
-    ensures { IfOk result (IsFirstOf (HasNoChain (B.disk blocks.now) survey.now.areas.items) places.now) }
+    ensures { IfOk result (IsFirstOf (EntryHasNoChain (B.disk blocks.now) survey.now.areas.items) places.now) }
 {
     'each: for place in places {
         if has_no_chain(alloc, blocks, known, survey, *place)? {
@@ -114,7 +114,7 @@ pub fn first_without_chain<B: Blocks>(
     blocks: &B,
     survey: &Survey,
 ) -> Result<Option<EntryPlace>, AllocError>
-    ensures { IfOk result (IsFirstOf (HasNoChain (B.disk blocks.now) survey.now.areas.items) (entry_places_of survey.now.areas.items)) }
+    ensures { IfOk result (IsFirstOf (EntryHasNoChain (B.disk blocks.now) survey.now.areas.items) (entry_places_of survey.now.areas.items)) }
 {
     files_have_one_chain();
     let mut known = vec![in alloc; 0; blocks.count() as usize]?;

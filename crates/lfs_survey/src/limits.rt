@@ -3,7 +3,7 @@
 ghost use Rattle.std.specs.Prelude.{◌≡◌, ◌≤◌, ◌+◌, ◌*◌, ℕ, List, [], IfNone, IfSome, Some, length};
 ghost use Rattle.lfs_fs.specs.Superblock.{IsSuperblock, header_of, word_at};
 ghost use Rattle.lfs_meta.specs.Entry.{StoredEntry};
-ghost use Rattle.lfs_survey.specs.AllPlaces.{entry_at};
+ghost use Rattle.lfs_survey.specs.AllPlaces.{entry_at_place};
 ghost use Rattle.lfs_survey.specs.Faults.{StatesLimits, first_entry};
 
 use crate::all_places::entry_at;
@@ -60,7 +60,7 @@ fn limits_in(entry: &Entry) -> Option<Limits>
 /// Source: SPEC.md, "0x0ff superblock".
 pub fn stated_limits(survey: &Survey) -> Option<Limits>
     ensures found { IfSome result (StatesLimits survey.now.areas.items) }
-    ensures none { IfNone result ((e : StoredEntry) (bytes : List ℕ) → entry_at survey.now.areas.items first_entry ≡ Some e → IsSuperblock e bytes → ⊥) }
+    ensures none { IfNone result ((e : StoredEntry) (bytes : List ℕ) → entry_at_place survey.now.areas.items first_entry ≡ Some e → IsSuperblock e bytes → ⊥) }
 {
     limits_in(entry_at(survey, first_entry())?)
 }

@@ -2,7 +2,7 @@
 
 ghost use Rattle.std.specs.Prelude.{◌≡◌, ◌<◌, ◌++◌, [], ◌∷◌, cond, true, length, slice_set, IfOk, OnOk};
 ghost use Rattle.lfs_meta.specs.BodyHeld.{body_held};
-ghost use Rattle.lfs_survey.specs.Lone.{HoldsAs, alone, body_pairs, entries_pairs, is_lone, lone_pairs, marked_by, names, part_pairs, tail_pairs, unmarked_pairs};
+ghost use Rattle.lfs_survey.specs.Lone.{HoldsAs, alone, body_pairs, entries_pairs, is_lone, lone_pairs, marked_by, pairs_named, part_pairs, tail_pairs, unmarked_pairs};
 
 use crate::looking::{is_closed, is_open};
 use lfs_block::{Blocks, MountFault};
@@ -95,7 +95,7 @@ fn add_lone<B: Blocks>(
     requires len { length looked.now ≡ (B.disk blocks.now).count }
     ensures pairs { OnOk result (pairs.new.items ≡ pairs.old.items
         ++ cond (is_lone (B.disk blocks.now) looked.now (alone block)) (alone block ∷ []) []) }
-    ensures named { OnOk result (named.new ≡ marked_by named.old (names (B.disk blocks.now)
+    ensures named { OnOk result (named.new ≡ marked_by named.old (pairs_named (B.disk blocks.now)
         (cond (is_lone (B.disk blocks.now) looked.now (alone block)) (alone block ∷ []) []))) }
 {
     let pair = (block, block);
@@ -119,7 +119,7 @@ pub(crate) fn find_lone<B: Blocks>(
 ) -> Result<Vec<(u32, u32)>, AllocError>
     requires len { length looked.now ≡ (B.disk blocks.now).count }
     ensures pairs { IfOk result (λ pairs. pairs.items ≡ lone_pairs (B.disk blocks.now) looked.now (B.disk blocks.now).count) }
-    ensures named { IfOk result (λ pairs. named.new ≡ marked_by named.old (names (B.disk blocks.now) pairs.items)) }
+    ensures named { IfOk result (λ pairs. named.new ≡ marked_by named.old (pairs_named (B.disk blocks.now) pairs.items)) }
 {
     let mut pairs = Vec::new(alloc);
     for block in 0..blocks.count() {

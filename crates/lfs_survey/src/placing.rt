@@ -1,7 +1,7 @@
 //! The first place of a survey at which a pair isn't read for a fault.
 
 ghost use Rattle.std.specs.Prelude.{◌≡◌, MatchBool};
-ghost use Rattle.lfs_survey.specs.Place.{IsFirstIn, IsFirstPlace};
+ghost use Rattle.lfs_survey.specs.Place.{IsFirstIn, IsPlaceOfFault};
 ghost use Rattle.lfs_survey.specs.declared.found.Found.TheVariants.{Refused};
 
 use crate::area::Area;
@@ -34,7 +34,7 @@ fn first_refused(found: &[Found], fault: MountFault) -> Option<usize>
 
 /// The first place of a survey at which a pair isn't read for this fault; `None` where there is none.
 pub fn first_place(survey: &Survey, fault: MountFault) -> Option<Place>
-    ensures { IsFirstPlace fault survey.now.areas.items result }
+    ensures { IsPlaceOfFault fault survey.now.areas.items result }
 {
     'each: for (area, here) in survey.areas.iter().enumerate() {
         if let Some(call) = first_refused(&here.found, fault) {

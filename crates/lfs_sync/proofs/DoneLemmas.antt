@@ -13,7 +13,7 @@ use Rattle.lfs_command.specs.Command.{Command, Mkdir, Put, Rm, Mv, SetAttr, RmAt
 use Rattle.lfs_command.specs.Equation.{attributes_at, equation}
 use Rattle.lfs_command.specs.PathMap.{below, same_path}
 use Rattle.lfs_law.proofs.PathMapLemmas.{below_cases, below_longer, below_none, longer, same_path_decides}
-use Rattle.lfs_sync.specs.Synced.{equations}
+use Rattle.lfs_sync.specs.Synced.{equations_of}
 
 -- a directory is made, a file put or something removed
 abbrev pub IsSimple : Command → Type 0
@@ -56,7 +56,7 @@ done_one (RmAttr p k) simple tree path = absurd simple
 done_one (Grow n) simple tree path = absurd simple
 
 pub done_is : (cs : List Command) → AllByRecursion IsSimple cs → (tree : Path → Option Node) (path : Path)
-    → equations cs tree path ≡ done_all path cs (tree path)
+    → equations_of cs tree path ≡ done_all path cs (tree path)
 done_is [] simple tree path = refl
 done_is (c ∷ cs) simple tree path =
     done_is cs simple.1 (equation c tree) path ∙ ap (done_all path cs) (done_one c simple.0 tree path)

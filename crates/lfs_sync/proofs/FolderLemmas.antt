@@ -21,7 +21,7 @@ use Rattle.lfs_command.specs.PathMap.{same_path}
 use Rattle.lfs_law.proofs.PathMapLemmas.{no_names, same_path_decides}
 use Rattle.lfs_sync.specs.Shown.{IsBare, Shown, ShownRise, shown_at, wanted_node, wanted_of}
 use Rattle.lfs_sync.specs.SyncLaws.{FoldersAreWanted}
-use Rattle.lfs_sync.specs.SyncRows.{AreRowsOf, IsRowOf, folder_text, sync_text}
+use Rattle.lfs_sync.specs.SyncRows.{AreRowsOfFolder, IsFolderRow, folder_text, sync_text}
 use Rattle.lfs_sync.specs.declared.sync_row.SyncRow.{SyncRow}
 use Rattle.lfs_sync.proofs.DoneLemmas.{same_itself}
 use Rattle.lfs_sync.proofs.ShownLemmas.{AreBehind, other_before}
@@ -130,7 +130,7 @@ folders_are_wanted order rows are = record {
 
 -- a row that has the text and the bytes of a folder's
 row_is : (row : SyncRow) (f : FolderRow) (r : PathRow) → sync_text row ≡ folder_text f → IsRow f (path_text r.path) r.bytes → All IsName r.path
-    → IsRowOf row (wanted_of r)
+    → IsFolderRow row (wanted_of r)
 row_is row f r same is names = record {
   path = (names, ap (λ t. t.0) same ∙ is.0);
   node = ap wanted_node (sym (ap (λ t. t.1) same ∙ is.1));
@@ -143,7 +143,7 @@ tail_same : {X : Type 0} (x y : X) (xs ys : List X) → x ∷ xs ≡ y ∷ ys �
 tail_same x y xs ys same = ap (drop 1) same
 
 rows_zip : (rows : List SyncRow) (folder : List FolderRow) (shown : List PathRow) → map sync_text rows ≡ map folder_text folder
-    → AreSpelled folder shown → All (λ p. All IsHostName p) (paths_of shown) → AllZip IsRowOf rows (map wanted_of shown)
+    → AreSpelled folder shown → All (λ p. All IsHostName p) (paths_of shown) → AllZip IsFolderRow rows (map wanted_of shown)
 rows_zip [] [] [] same spelled fits = tt
 rows_zip [] [] (r ∷ shown) same spelled fits = absurd spelled
 rows_zip [] (f ∷ folder) shown same spelled fits = absurd (omega (arith, ap length same))
@@ -157,7 +157,7 @@ rows_zip (row ∷ rows) (f ∷ folder) (r ∷ shown) same spelled fits = (
 )
 
 pub rows_of_folder : (rows : List SyncRow) (folder : List FolderRow) (shown : List PathRow) → map sync_text rows ≡ map folder_text folder
-    → AreSpelled folder shown → AreFolderRows shown → AreRowsOf rows (map wanted_of shown)
+    → AreSpelled folder shown → AreFolderRows shown → AreRowsOfFolder rows (map wanted_of shown)
 rows_of_folder rows folder shown same spelled are = record {
   each = rows_zip rows folder shown same spelled are.fit;
   rise = rise_rows shown are.rise;

@@ -7,7 +7,7 @@ use Rattle.lfs_fs.specs.Listed.{Listed, path_after, row_after, rows_after}
 use Rattle.lfs_fs.specs.Path.{Path}
 use Rattle.lfs_fs.specs.RowShown.{shown_node}
 use Rattle.lfs_command.specs.PathMap.{below}
-use Rattle.lfs_listing.specs.Comparing.{AreComplete, IsComplete}
+use Rattle.lfs_listing.specs.Comparing.{AreComplete, IsReadable}
 use Rattle.lfs_sync.specs.Shown.{Shown, held_by, held_of}
 use Rattle.lfs_listing.specs.Below.{names}
 use Rattle.lfs_sync.specs.Sides.{CanBeRead, HoldsMore, held_all, held_shown}
@@ -39,7 +39,7 @@ module _ (at q now : Path) (left later : List Listed) (x : Listed) (held : List 
       ∙ ap (λ (l : List Listed). held_all d held ++ held_of d at (rows_after q l)) (sym first)
       ∙ way
 
-  complete_less : (d : Disk) → AreComplete d (rows_after q left) → IsComplete d x.entry.body × AreComplete d (rows_after now later)
+  complete_less : (d : Disk) → AreComplete d (rows_after q left) → IsReadable d x.entry.body × AreComplete d (rows_after now later)
   complete_less d complete =
       let here = subst (λ (l : List Listed). AreComplete d (rows_after q l)) first complete in
       (here.0, subst (λ (p : Path). AreComplete d (rows_after p later)) (sym path) here.1)
@@ -48,8 +48,8 @@ module _ (at q now : Path) (left later : List Listed) (x : Listed) (held : List 
       → CanBeRead d (held ++ h ∷ []) × AreComplete d (rows_after now later)
   complete_more d h same can complete =
       let here = complete_less d complete in (
-        All-push (λ (y : HeldRow). IsComplete d y.row.entry.body) held h can
-            (subst (λ (y : Listed). IsComplete d y.entry.body) (sym same) here.0),
+        All-push (λ (y : HeldRow). IsReadable d y.row.entry.body) held h can
+            (subst (λ (y : Listed). IsReadable d y.entry.body) (sym same) here.0),
         here.1,
       )
 

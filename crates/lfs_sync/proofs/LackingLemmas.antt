@@ -7,7 +7,7 @@ use Rattle.lfs_meta.specs.Name.{Name}
 use Rattle.lfs_fs.specs.Path.{Path, path_text}
 use Rattle.lfs_fs.specs.Tree.{Node}
 use Rattle.lfs_command.specs.Command.{Command, Mkdir, on_paths}
-use Rattle.lfs_sync.specs.Merging.{Adds, if_so}
+use Rattle.lfs_sync.specs.Merging.{PlansBehind, if_so}
 use Rattle.lfs_sync.specs.Planned.{in_texts, plan_asked}
 use Rattle.lfs_listing.specs.Below.{names}
 use Rattle.lfs_sync.specs.Synced.{lacking}
@@ -48,7 +48,7 @@ IsAt tree ns rows plan k =
     plan_asked rows plan ++ in_texts (lacking tree (take (k - 1) ns) (drop (k - 1) ns)) ≡ in_texts (lacking tree [] ns)
 
 pub parent_further : (tree : Path → Option Node) (ns : Path) (rows : List SyncRow) (old new : List Planned) (k : ℕ) → 1 ≤ k → k < length ns
-    → IsAt tree ns rows old k → Adds rows old new (if_so (not (is_some (tree (take k ns)))) (Mkdir (take k ns))) → IsAt tree ns rows new (k + 1)
+    → IsAt tree ns rows old k → PlansBehind rows old new (if_so (not (is_some (tree (take k ns)))) (Mkdir (take k ns))) → IsAt tree ns rows new (k + 1)
 parent_further tree ns rows old new k some' within way adds =
     let less : k - 1 + 1 ≡ k = omega arith in
     let same : k + 1 - 1 ≡ k = omega arith in

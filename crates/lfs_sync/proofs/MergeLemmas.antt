@@ -12,12 +12,12 @@ use Rattle.lfs_fs.specs.Tree.{Node}
 use Rattle.lfs_command.specs.Command.{Asked, Command}
 use Rattle.lfs_command.specs.PathMap.{same_path}
 use Rattle.lfs_law.proofs.PathMapLemmas.{same_path_or_not}
-use Rattle.lfs_sync.specs.Merging.{Adds, IsUnderWay, PlansBoth, PlansHeld, PlansWanted, if_so}
+use Rattle.lfs_sync.specs.Merging.{PlansBehind, IsUnderWay, PlansBoth, PlansHeld, PlansWanted, if_so}
 use Rattle.lfs_sync.specs.Planned.{in_texts, plan_asked}
 use Rattle.lfs_sync.specs.Shown.{Shown, ShownRise, shown_at}
 use Rattle.lfs_listing.specs.Below.{names}
 use Rattle.lfs_sync.specs.Sides.{first_order, held_all, wanted_all}
-use Rattle.lfs_sync.specs.Synced.{comes, goes, is_dir, is_like, is_new_directory, is_new_file, making, removing, same_contents, same_kind}
+use Rattle.lfs_sync.specs.Synced.{comes, goes, is_dir, is_like, is_new_directory, is_new_file, making_row, removing, same_held, same_kind}
 use Rattle.lfs_sync.specs.declared.held_row.HeldRow.{HeldRow}
 use Rattle.lfs_sync.specs.declared.merging.Merging.{Merging}
 use Rattle.lfs_sync.specs.declared.planned.Planned.{Planned}
@@ -30,7 +30,7 @@ use Rattle.lfs_sync.proofs.ShownLemmas.{AreBehind, behind_earlier, each_weaker, 
 
 -- what was left of all is planned, and the rest is left
 pub further : (rows : List SyncRow) (old new : List Planned) (commands : List Command) (left rest all : List Asked)
-    → plan_asked rows old ++ left ≡ all → Adds rows old new commands → left ≡ in_texts commands ++ rest → plan_asked rows new ++ rest ≡ all
+    → plan_asked rows old ++ left ≡ all → PlansBehind rows old new commands → left ≡ in_texts commands ++ rest → plan_asked rows new ++ rest ≡ all
 further rows old new commands left rest all way adds cut =
     ap (λ (l : List Asked). l ++ rest) adds ∙ append_assoc (plan_asked rows old) (in_texts commands) rest
     ∙ ap (λ (l : List Asked). plan_asked rows old ++ l) (sym cut) ∙ way
@@ -62,7 +62,7 @@ goes_behind order w ws r before =
 comes_behind : PathsAreOrdered → (r : Shown) (rs : List Shown) (w : Shown) → path_precedes r.path w.path ≡ true
     → comes (r ∷ rs) w ≡ comes rs w
 comes_behind order r rs w before =
-    ap (λ (b : Bool). not (is_like same_contents (if b then Some r.node else shown_at rs w.path) w.node))
+    ap (λ (b : Bool). not (is_like same_held (if b then Some r.node else shown_at rs w.path) w.node))
     (other_before order r.path w.path before)
 
 same_goes : PathsAreOrdered → (w : Shown) (ws rs : List Shown) → AreBehind w.path rs → filter (goes (w ∷ ws)) rs ≡ filter (goes ws) rs
@@ -92,7 +92,7 @@ goes_alone : PathsAreOrdered → (r : Shown) (ws : List Shown) → AreBehind r.p
 goes_alone order r ws behind = ap (λ (o : Option Node). not (is_like same_kind o r.node)) (none_behind order r.path ws behind)
 
 comes_alone : PathsAreOrdered → (w : Shown) (rs : List Shown) → AreBehind w.path rs → comes rs w ≡ true
-comes_alone order w rs behind = ap (λ (o : Option Node). not (is_like same_contents o w.node)) (none_behind order w.path rs behind)
+comes_alone order w rs behind = ap (λ (o : Option Node). not (is_like same_held o w.node)) (none_behind order w.path rs behind)
 
 -- ---- steps
 
@@ -103,9 +103,9 @@ held_further order at rows old new r rs ws held wanted way plans behind = record
   gone = further rows old.removed.items new.removed.items (removing at r ∷ []) _ _ _ way.gone plans.removed
       (first_if (removing at) (goes ws) (goes ws) true r rs (goes_alone order r ws behind) refl);
   made = further rows old.directories.items new.directories.items [] _ _ _ way.made plans.directories
-      (none_first (making at) (is_new_directory (r ∷ rs)) (is_new_directory rs) ws (same_directories order r rs ws behind));
+      (none_first (making_row at) (is_new_directory (r ∷ rs)) (is_new_directory rs) ws (same_directories order r rs ws behind));
   put = further rows old.files.items new.files.items [] _ _ _ way.put plans.files
-      (none_first (making at) (is_new_file (r ∷ rs)) (is_new_file rs) ws (same_files order r rs ws behind));
+      (none_first (making_row at) (is_new_file (r ∷ rs)) (is_new_file rs) ws (same_files order r rs ws behind));
   rise = way.rise.1;
   rises = way.rises;
 }
@@ -116,11 +116,11 @@ pub wanted_further : PathsAreOrdered → (at : Path) (rows : List SyncRow) (old 
 wanted_further order at rows old new w rs ws held wanted way plans behind = record {
   gone = further rows old.removed.items new.removed.items [] _ _ _ way.gone plans.removed
       (none_first (removing at) (goes (w ∷ ws)) (goes ws) rs (same_goes order w ws rs behind));
-  made = further rows old.directories.items new.directories.items (if_so (is_dir w && true) (making at w)) _ _ _ way.made plans.directories
-      (first_if (making at) (is_new_directory rs) (is_new_directory rs) (is_dir w && true) w ws
+  made = further rows old.directories.items new.directories.items (if_so (is_dir w && true) (making_row at w)) _ _ _ way.made plans.directories
+      (first_if (making_row at) (is_new_directory rs) (is_new_directory rs) (is_dir w && true) w ws
       (ap (λ (b : Bool). is_dir w && b) (comes_alone order w rs behind)) refl);
-  put = further rows old.files.items new.files.items (if_so (not (is_dir w) && true) (making at w)) _ _ _ way.put plans.files
-      (first_if (making at) (is_new_file rs) (is_new_file rs) (not (is_dir w) && true) w ws
+  put = further rows old.files.items new.files.items (if_so (not (is_dir w) && true) (making_row at w)) _ _ _ way.put plans.files
+      (first_if (making_row at) (is_new_file rs) (is_new_file rs) (not (is_dir w) && true) w ws
       (ap (λ (b : Bool). not (is_dir w) && b) (comes_alone order w rs behind)) refl);
   rise = way.rise;
   rises = way.rises.1;
@@ -133,14 +133,14 @@ both_further order at rows old new r w rs ws held wanted way plans same = record
   gone = further rows old.removed.items new.removed.items (if_so (not (same_kind w.node r.node)) (removing at r)) _ _ _ way.gone plans.removed
       (first_if (removing at) (goes (w ∷ ws)) (goes ws) (not (same_kind w.node r.node)) r rs goes_here
       (same_goes order w ws rs (subst (λ (p : Path). AreBehind p rs) same way.rise.0)));
-  made = further rows old.directories.items new.directories.items (if_so (is_dir w && not (same_contents r.node w.node)) (making at w)) _ _ _
+  made = further rows old.directories.items new.directories.items (if_so (is_dir w && not (same_held r.node w.node)) (making_row at w)) _ _ _
       way.made plans.directories
-      (first_if (making at) (is_new_directory (r ∷ rs)) (is_new_directory rs) (is_dir w && not (same_contents r.node w.node)) w ws
+      (first_if (making_row at) (is_new_directory (r ∷ rs)) (is_new_directory rs) (is_dir w && not (same_held r.node w.node)) w ws
       (ap (λ (b : Bool). is_dir w && b) comes_here)
       (same_directories order r rs ws behind));
-  put = further rows old.files.items new.files.items (if_so (not (is_dir w) && not (same_contents r.node w.node)) (making at w)) _ _ _
+  put = further rows old.files.items new.files.items (if_so (not (is_dir w) && not (same_held r.node w.node)) (making_row at w)) _ _ _
       way.put plans.files
-      (first_if (making at) (is_new_file (r ∷ rs)) (is_new_file rs) (not (is_dir w) && not (same_contents r.node w.node)) w ws
+      (first_if (making_row at) (is_new_file (r ∷ rs)) (is_new_file rs) (not (is_dir w) && not (same_held r.node w.node)) w ws
       (ap (λ (b : Bool). not (is_dir w) && b) comes_here)
       (same_files order r rs ws behind));
   rise = way.rise.1;
@@ -155,9 +155,9 @@ both_further order at rows old new r w rs ws held wanted way plans same = record
         ap (λ (b : Bool). not (is_like same_kind (if b then Some w.node else shown_at ws r.path) r.node))
         (ap (λ (p : Path). same_path p r.path) (sym same) ∙ same_itself r.path)
 
-    comes_here : comes (r ∷ rs) w ≡ not (same_contents r.node w.node)
+    comes_here : comes (r ∷ rs) w ≡ not (same_held r.node w.node)
     comes_here =
-        ap (λ (b : Bool). not (is_like same_contents (if b then Some r.node else shown_at rs w.path) w.node))
+        ap (λ (b : Bool). not (is_like same_held (if b then Some r.node else shown_at rs w.path) w.node))
         (ap (λ (p : Path). same_path p w.path) same ∙ same_itself w.path)
 
 -- ---- which row comes first

@@ -16,7 +16,7 @@ use Rattle.lfs_command.specs.Command.{Command, HasNames, Mkdir, Put, Rm}
 use Rattle.lfs_command.specs.Verdict.{is_directory}
 use Rattle.lfs_law.proofs.Cuts.{All-left}
 use Rattle.lfs_sync.specs.Shown.{AreHeld, Shown}
-use Rattle.lfs_sync.specs.Synced.{goes, is_new_directory, is_new_file, lacking, made, make_commands, making, making_node, put_commands}
+use Rattle.lfs_sync.specs.Synced.{goes, is_new_directory, is_new_file, lacking, made, make_commands, making_row, making_node, put_commands}
 use Rattle.lfs_sync.specs.Synced.{removals, remove_by, remove_commands, removing, sync_commands}
 use Rattle.lfs_sync.proofs.ShownLemmas.{each_weaker}
 
@@ -51,8 +51,8 @@ making_named p (Dir a) names = one_path p names
 
 made_rows_named : (test : Shown → Bool) (at : Path) (rs : List Shown) → AreNamed at rs → All HasNames (made test at rs)
 made_rows_named test at rs named =
-    All-map HasNames (making at) (filter test rs)
-    (All-weaker (λ (r : Shown). All IsName (at ++ r.path)) (λ (r : Shown). HasNames (making at r))
+    All-map HasNames (making_row at) (filter test rs)
+    (All-weaker (λ (r : Shown). All IsName (at ++ r.path)) (λ (r : Shown). HasNames (making_row at r))
     (λ r names. making_named (at ++ r.path) r.node names) (filter test rs)
     (All-filter test (λ (r : Shown). All IsName (at ++ r.path)) rs named))
 

@@ -14,7 +14,7 @@ use Rattle.lfs_command.specs.PathMap.{below, same_path}
 use Rattle.lfs_command.specs.Verdict.{is_directory}
 use Rattle.lfs_law.proofs.Decided.{same_name_or_not}
 use Rattle.lfs_law.proofs.PathMapLemmas.{below_longer, below_some, same_path_decides}
-use Rattle.lfs_sync.specs.Synced.{equations, lacking, with_file, with_parents, with_parents_by}
+use Rattle.lfs_sync.specs.Synced.{equations_of, lacking, with_file, with_parents, with_parents_by}
 use Rattle.lfs_sync.specs.SyncLaws.{IsRooted, MadeIsWithParents, PutIsWithFile}
 use Rattle.lfs_sync.proofs.DoneLemmas.{IsSimple, below_behind, done_all, done_append, done_is, simple_append}
 use Rattle.lfs_sync.proofs.DoneLemmas.{other_below, other_front, other_itself, other_longer, other_outside, outside_longer, same_behind}
@@ -213,7 +213,7 @@ module _ (tree : Path → Option Node) (to : Path) (top : is_directory (tree [])
       ∙ last_by_rest tree to k q (below (k ∷ q) to) refl (none_there (tree to) complete none)
 
   made_by : (b : Bool) → is_directory (tree to) ≡ b → (path : Path)
-      → equations (if b then [] else lacking tree [] to ++ Mkdir to ∷ []) tree path ≡ with_parents to tree path
+      → equations_of (if b then [] else lacking tree [] to ++ Mkdir to ∷ []) tree path ≡ with_parents to tree path
   made_by true there path = all_there tree to path (below path to) is there refl
   made_by false none path = done_is (lacking tree [] to ++ Mkdir to ∷ []) made_simple tree path ∙ made_there none path
 

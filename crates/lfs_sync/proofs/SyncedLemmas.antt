@@ -13,8 +13,8 @@ use Rattle.lfs_command.specs.Equation.{attributes_at}
 use Rattle.lfs_command.specs.PathMap.{below, same_path}
 use Rattle.lfs_law.proofs.PathMapLemmas.{below-append, below_cases, same_path_decides}
 use Rattle.lfs_sync.specs.Shown.{AreHeld, IsBare, Shown, ShownRise, shown_at}
-use Rattle.lfs_sync.specs.Synced.{comes, equations, goes, is_dir, is_like, is_new_directory, is_new_file, made, making, making_node, removals}
-use Rattle.lfs_sync.specs.Synced.{removing, same_contents, same_kind, sync_commands, synced, synced_by, with_kept_at}
+use Rattle.lfs_sync.specs.Synced.{comes, equations_of, goes, is_dir, is_like, is_new_directory, is_new_file, made, making_row, making_node, removals}
+use Rattle.lfs_sync.specs.Synced.{removing, same_held, same_kind, sync_commands, synced, synced_by, with_kept_at}
 use Rattle.lfs_sync.specs.SyncLaws.{EqualNeedsNothing, SyncedIsTheFolder}
 use Rattle.lfs_sync.proofs.DoneLemmas.{IsSimple, done_all, done_append, done_at, done_is, other_outside, same_behind, simple_append}
 use Rattle.lfs_sync.proofs.ShownLemmas.{AreBehind, IsBareAt, bare_at, each_weaker, filter_none, none_behind, passing, rise_filter}
@@ -30,7 +30,7 @@ making_one : (p : Path) (x : Node) → IsSimple (making_node p x)
 making_one p (File bytes a) = tt
 making_one p (Dir a) = tt
 
-making_simple : (at : Path) (rs : List Shown) → AllByRecursion IsSimple (map (making at) rs)
+making_simple : (at : Path) (rs : List Shown) → AllByRecursion IsSimple (map (making_row at) rs)
 making_simple at [] = tt
 making_simple at (r ∷ rs) = (making_one (at ++ r.path) r.node, making_simple at rs)
 
@@ -48,10 +48,10 @@ one_elsewhere p path (File bytes a) old other = ap (λ (b : Bool). if b then Som
 one_elsewhere p path (Dir a) old other = ap (λ (b : Bool). if b then Some (Dir []) else old) other
 
 making_elsewhere : (at path : Path) (rs : List Shown) (old : Option Node) → below at path ≡ None
-    → done_all path (map (making at) rs) old ≡ old
+    → done_all path (map (making_row at) rs) old ≡ old
 making_elsewhere at path [] old outside = refl
 making_elsewhere at path (r ∷ rs) old outside =
-    ap (done_all path (map (making at) rs)) (one_elsewhere (at ++ r.path) path r.node old (other_outside at r.path path outside))
+    ap (done_all path (map (making_row at) rs)) (one_elsewhere (at ++ r.path) path r.node old (other_outside at r.path path outside))
     ∙ making_elsewhere at path rs old outside
 
 -- ---- what they leave at a path
@@ -87,19 +87,19 @@ one_there p path (Dir a) old same = ap (λ (b : Bool). if b then Some (Dir []) e
 
 making_by : (at rest : Path) (r : Shown) (rs : List Shown) (old : Option Node) (b : Bool) → same_path (at ++ r.path) (at ++ rest) ≡ b
     → (b ≡ true → shown_at rs rest ≡ None)
-    → ((now : Option Node) → done_all (at ++ rest) (map (making at) rs) now ≡ made_by (shown_at rs rest) now)
-    → done_all (at ++ rest) (map (making at) rs) (done_at (at ++ rest) (making at r) old)
+    → ((now : Option Node) → done_all (at ++ rest) (map (making_row at) rs) now ≡ made_by (shown_at rs rest) now)
+    → done_all (at ++ rest) (map (making_row at) rs) (done_at (at ++ rest) (making_row at r) old)
     ≡ made_by (if b then Some r.node else shown_at rs rest) old
 making_by at rest r rs old true same none later =
-    later (done_at (at ++ rest) (making at r) old)
-    ∙ ap (λ (o : Option Node). made_by o (done_at (at ++ rest) (making at r) old)) (none refl)
+    later (done_at (at ++ rest) (making_row at r) old)
+    ∙ ap (λ (o : Option Node). made_by o (done_at (at ++ rest) (making_row at r) old)) (none refl)
     ∙ one_there (at ++ r.path) (at ++ rest) r.node old same
 making_by at rest r rs old false same none later =
-    later (done_at (at ++ rest) (making at r) old)
+    later (done_at (at ++ rest) (making_row at r) old)
     ∙ ap (made_by (shown_at rs rest)) (one_elsewhere (at ++ r.path) (at ++ rest) r.node old same)
 
 making_there : PathsAreOrdered → (at rest : Path) (rs : List Shown) (old : Option Node) → ShownRise rs
-    → done_all (at ++ rest) (map (making at) rs) old ≡ made_by (shown_at rs rest) old
+    → done_all (at ++ rest) (map (making_row at) rs) old ≡ made_by (shown_at rs rest) old
 making_there order at rest [] old rise = refl
 making_there order at rest (r ∷ rs) old rise =
     making_by at rest r rs old (same_path r.path rest) (same_behind at r.path rest)
@@ -147,10 +147,10 @@ left_of want old = if is_some (passing (λ (x : Node). not (is_like same_kind wa
 
 -- and what is made there
 abbrev new_directory : Option Node → Option Node → Option Node
-new_directory old want = passing (λ (x : Node). same_kind x (Dir []) && not (is_like same_contents old x)) want
+new_directory old want = passing (λ (x : Node). same_kind x (Dir []) && not (is_like same_held old x)) want
 
 abbrev new_file : Option Node → Option Node → Option Node
-new_file old want = passing (λ (x : Node). not (same_kind x (Dir [])) && not (is_like same_contents old x)) want
+new_file old want = passing (λ (x : Node). not (same_kind x (Dir [])) && not (is_like same_held old x)) want
 
 -- a file that is there is put, unless it has the same bytes
 file_kept : (b : Bool) (bytes others : List ℕ) (a c : Attributes) → (b ≡ true → others ≡ bytes)
@@ -194,7 +194,7 @@ there order at rest held wanted rise rises bare =
 -- the tree becomes what rows have that rise and have no attributes
 pub synced_by_rows : PathsAreOrdered → (tree : Path → Option Node) (at : Path) (held wanted : List Shown) → AreHeld tree at held
     → ShownRise wanted → AllByRecursion (λ (r : Shown). IsBare r.node) wanted
-    → (path : Path) → equations (sync_commands at held wanted) tree path ≡ synced at wanted tree path
+    → (path : Path) → equations_of (sync_commands at held wanted) tree path ≡ synced at wanted tree path
 synced_by_rows order tree at held wanted are rise bare path =
     done_is (sync_commands at held wanted) (sync_simple at held wanted) tree path
     ∙ elim (below_cases at path) [
@@ -228,7 +228,7 @@ same_bytes : (bytes others : List ℕ) (a : Attributes) → File bytes a ≡ Fil
 same_bytes bytes others a same = cc
 
 -- and what is there as it is wanted doesn't come
-is_there : (old : Option Node) (x : Node) → with_kept_at old (Some x) ≡ old → not (is_like same_contents old x) ≡ false
+is_there : (old : Option Node) (x : Node) → with_kept_at old (Some x) ≡ old → not (is_like same_held old x) ≡ false
 is_there None x same = absurd (none-some x (sym same))
 is_there (Some (File others c)) (File bytes a) same =
     ap not ((bytes_eq-Decides others bytes).1 (same_bytes bytes others c (same_Some (File bytes c) (File others c) same)))
@@ -247,10 +247,10 @@ pub equal_by_rows : (tree : Path → Option Node) (at : Path) (held wanted : Lis
 equal_by_rows tree at held wanted are right same =
     ap (λ (l : List Shown). map (removing at) (reverse l) ++ (made (is_new_directory held) at wanted ++ made (is_new_file held) at wanted))
     (filter_none (goes wanted) held (each_weaker (λ (r : Shown). tree (at ++ r.path) ≡ Some r.node) (λ (r : Shown). goes wanted r ≡ false) none_goes held are.right))
-    ∙ ap (λ (l : List Shown). map (making at) l ++ made (is_new_file held) at wanted)
+    ∙ ap (λ (l : List Shown). map (making_row at) l ++ made (is_new_file held) at wanted)
     (filter_none (is_new_directory held) wanted (each_weaker P (λ (r : Shown). is_new_directory held r ≡ false)
     (λ r at_path. ap (λ (b : Bool). is_dir r && b) (none_comes r at_path) ∙ and_false (is_dir r)) wanted right))
-    ∙ ap (λ (l : List Shown). map (making at) l)
+    ∙ ap (λ (l : List Shown). map (making_row at) l)
     (filter_none (is_new_file held) wanted (each_weaker P (λ (r : Shown). is_new_file held r ≡ false)
     (λ r at_path. ap (λ (b : Bool). not (is_dir r) && b) (none_comes r at_path) ∙ and_false (not (is_dir r))) wanted right))
   where

@@ -7,7 +7,7 @@ use Rattle.lfs_command.specs.Command.{Asked, Command}
 use Rattle.lfs_sync.specs.Planned.{in_texts, plan_asked}
 use Rattle.lfs_sync.specs.Shown.{Shown, ShownRise}
 use Rattle.lfs_sync.specs.Sides.{held_all, wanted_all}
-use Rattle.lfs_sync.specs.Synced.{goes, is_dir, is_new_directory, is_new_file, made, making, removing, same_contents, same_kind}
+use Rattle.lfs_sync.specs.Synced.{goes, is_dir, is_new_directory, is_new_file, made, making_row, removing, same_held, same_kind}
 use Rattle.lfs_sync.specs.declared.held_row.HeldRow.{HeldRow}
 use Rattle.lfs_sync.specs.declared.merging.Merging.{Merging}
 use Rattle.lfs_sync.specs.declared.planned.Planned.{Planned}
@@ -22,14 +22,14 @@ removed_of at held wanted = in_texts (map (removing at) (filter (goes wanted) he
 abbrev pub directories_of : Path → List Shown → List Shown → List Asked
 directories_of at held wanted = in_texts (made (is_new_directory held) at wanted)
 
-abbrev pub files_of : Path → List Shown → List Shown → List Asked
-files_of at held wanted = in_texts (made (is_new_file held) at wanted)
+abbrev pub files_put : Path → List Shown → List Shown → List Asked
+files_put at held wanted = in_texts (made (is_new_file held) at wanted)
 
 -- rows are merged, of which these are left: what is planned so far, and of them, is what is planned of all
 pub record IsUnderWay (at : Path) (rows : List SyncRow) (m : Merging) (left others held wanted : List Shown) : Type 0 where
   pub gone : plan_asked rows m.removed.items ++ removed_of at left others ≡ removed_of at held wanted
   pub made : plan_asked rows m.directories.items ++ directories_of at left others ≡ directories_of at held wanted
-  pub put : plan_asked rows m.files.items ++ files_of at left others ≡ files_of at held wanted
+  pub put : plan_asked rows m.files.items ++ files_put at left others ≡ files_put at held wanted
   pub rise : ShownRise left
   pub rises : ShownRise others
 
@@ -37,13 +37,13 @@ pub record IsUnderWay (at : Path) (rows : List SyncRow) (m : Merging) (left othe
 pub record IsMerged (at : Path) (rows : List SyncRow) (m : Merging) (held wanted : List Shown) : Type 0 where
   pub removed : plan_asked rows m.removed.items ≡ removed_of at held wanted
   pub directories : plan_asked rows m.directories.items ≡ directories_of at held wanted
-  pub files : plan_asked rows m.files.items ≡ files_of at held wanted
+  pub files : plan_asked rows m.files.items ≡ files_put at held wanted
 
 -- ---- steps
 
 -- commands are planned behind others
-abbrev pub Adds : List SyncRow → List Planned → List Planned → List Command → Type 0
-Adds rows old new commands = plan_asked rows new ≡ plan_asked rows old ++ in_texts commands
+abbrev pub PlansBehind : List SyncRow → List Planned → List Planned → List Command → Type 0
+PlansBehind rows old new commands = plan_asked rows new ≡ plan_asked rows old ++ in_texts commands
 
 -- one command, if it is wanted
 abbrev pub if_so : Bool → Command → List Command
@@ -55,26 +55,26 @@ pub record KeepsPlaces (old new : Merging) : Type 0 where
   pub wanted : new.wanted ≡ old.wanted
 
 -- commands are planned of each kind
-pub record Plans (rows : List SyncRow) (old new : Merging) (gone made put : List Command) : Type 0 where
-  pub removed : Adds rows old.removed.items new.removed.items gone
-  pub directories : Adds rows old.directories.items new.directories.items made
-  pub files : Adds rows old.files.items new.files.items put
+pub record PlansEach (rows : List SyncRow) (old new : Merging) (gone made put : List Command) : Type 0 where
+  pub removed : PlansBehind rows old.removed.items new.removed.items gone
+  pub directories : PlansBehind rows old.directories.items new.directories.items made
+  pub files : PlansBehind rows old.files.items new.files.items put
 
 -- a row of the image is removed, if it goes
 abbrev pub PlansHeld : Path → List SyncRow → Merging → Merging → Shown → Bool → Type 0
-PlansHeld at rows old new r goes = Plans rows old new (if_so goes (removing at r)) [] []
+PlansHeld at rows old new r goes = PlansEach rows old new (if_so goes (removing at r)) [] []
 
 -- a row of the folder is made, if it comes
 abbrev pub PlansWanted : Path → List SyncRow → Merging → Merging → Shown → Bool → Type 0
 PlansWanted at rows old new r comes =
-    Plans rows old new [] (if_so (is_dir r && comes) (making at r)) (if_so (not (is_dir r) && comes) (making at r))
+    PlansEach rows old new [] (if_so (is_dir r && comes) (making_row at r)) (if_so (not (is_dir r) && comes) (making_row at r))
 
 -- what differs where both have a row is removed and made
 abbrev pub PlansBoth : Path → List SyncRow → Merging → Merging → Shown → Shown → Type 0
 PlansBoth at rows old new r other =
-    Plans rows old new (if_so (not (same_kind other.node r.node)) (removing at r))
-    (if_so (is_dir other && not (same_contents r.node other.node)) (making at other))
-    (if_so (not (is_dir other) && not (same_contents r.node other.node)) (making at other))
+    PlansEach rows old new (if_so (not (same_kind other.node r.node)) (removing at r))
+    (if_so (is_dir other && not (same_held r.node other.node)) (making_row at other))
+    (if_so (not (is_dir other) && not (same_held r.node other.node)) (making_row at other))
 
 -- ---- the rows that are left
 
@@ -94,5 +94,5 @@ MergesTo d at rows m held wanted =
     IsUnderWay at rows m (held_all d (held_left m held)) (wanted_all rows (wanted_left m wanted)) (held_all d held) (wanted_all rows wanted)
 
 -- the rows at hand are left behind
-abbrev pub GoesOn : Disk → Path → List SyncRow → Merging → Merging → List HeldRow → List WantedRow → Type 0
-GoesOn d at rows old new held wanted = MergesTo d at rows old held wanted → MergesTo d at rows new held wanted
+abbrev pub MergingGoesOn : Disk → Path → List SyncRow → Merging → Merging → List HeldRow → List WantedRow → Type 0
+MergingGoesOn d at rows old new held wanted = MergesTo d at rows old held wanted → MergesTo d at rows new held wanted

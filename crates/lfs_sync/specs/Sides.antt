@@ -7,7 +7,7 @@ use Rattle.lfs_fs.specs.Listed.{Listed}
 use Rattle.lfs_fs.specs.Path.{Path}
 use Rattle.lfs_fs.specs.RowShown.{shown_node}
 use Rattle.lfs_listing.specs.Below.{names}
-use Rattle.lfs_listing.specs.Comparing.{IsComplete}
+use Rattle.lfs_listing.specs.Comparing.{IsReadable}
 use Rattle.lfs_listing.specs.Order.{path_order}
 use Rattle.lfs_sync.specs.Shown.{Shown, wanted_node}
 use Rattle.lfs_sync.specs.SyncRows.{bytes_at}
@@ -36,7 +36,7 @@ wanted_all rows wanted = map (wanted_shown rows) wanted
 
 -- each row's body can be read
 abbrev pub CanBeRead : Disk → List HeldRow → Type 0
-CanBeRead d held = All (λ h. IsComplete d h.row.entry.body) held
+CanBeRead d held = All (λ h. IsReadable d h.row.entry.body) held
 
 -- whose first row comes first; of no rows it never does
 abbrev pub first_order : List HeldRow → List WantedRow → Ordering

@@ -12,13 +12,13 @@ use Rattle.lfs_command.specs.Command.{Command, HasNames, Spells}
 use Rattle.lfs_command.specs.Verdict.{is_directory}
 use Rattle.lfs_sync.specs.Planned.{in_texts}
 use Rattle.lfs_sync.specs.Shown.{AreHeld, AreWanted, Shown, held_of, wanted_of}
-use Rattle.lfs_sync.specs.Synced.{equations, make_commands, put_commands, remove_commands, sync_commands, synced, with_file, with_parents}
-use Rattle.lfs_sync.specs.Synced.{without}
+use Rattle.lfs_sync.specs.Synced.{equations_of, make_commands, put_commands, remove_commands, sync_commands, synced, with_file, with_parents}
+use Rattle.lfs_sync.specs.Synced.{without_below}
 
--- the law: the commands' equations, one after another, make the tree with what the rows say at and below the path
+-- the law: the commands' equations_of, one after another, make the tree with what the rows say at and below the path
 abbrev pub SyncedIsTheFolder : Type 0
 SyncedIsTheFolder = (tree : Path → Option Node) (at : Path) (held wanted : List Shown) → AreHeld tree at held → AreWanted wanted
-    → (path : Path) → equations (sync_commands at held wanted) tree path ≡ synced at wanted tree path
+    → (path : Path) → equations_of (sync_commands at held wanted) tree path ≡ synced at wanted tree path
 
 -- the law: what is equal isn't touched: where both show the same, attributes aside, there is no command
 abbrev pub EqualNeedsNothing : Type 0
@@ -28,7 +28,7 @@ EqualNeedsNothing = (tree : Path → Option Node) (at : Path) (held wanted : Lis
 -- the law: what is at the path and below is gone, and all else is as it was
 abbrev pub RemovedIsWithout : Type 0
 RemovedIsWithout = (tree : Path → Option Node) (n : Name) (at : Path) (held : List Shown) → AreHeld tree (n ∷ at) held
-    → (path : Path) → equations (remove_commands (n ∷ at) held) tree path ≡ without (n ∷ at) tree path
+    → (path : Path) → equations_of (remove_commands (n ∷ at) held) tree path ≡ without_below (n ∷ at) tree path
 
 -- what is there is in a directory that is there
 abbrev pub IsRooted : (Path → Option Node) → Type 0
@@ -37,12 +37,12 @@ IsRooted tree = (p : Path) (n : Name) → is_some (tree (p ++ n ∷ [])) ≡ tru
 -- the law: the path and its parents are directories, where no file is at the path
 abbrev pub MadeIsWithParents : Type 0
 MadeIsWithParents = (tree : Path → Option Node) (to : Path) → is_directory (tree []) ≡ true → IsRooted tree
-    → is_some (tree to) ≡ is_directory (tree to) → (path : Path) → equations (make_commands tree to) tree path ≡ with_parents to tree path
+    → is_some (tree to) ≡ is_directory (tree to) → (path : Path) → equations_of (make_commands tree to) tree path ≡ with_parents to tree path
 
 -- the law: a file is at the path with the bytes, and its parents are directories
 abbrev pub PutIsWithFile : Type 0
 PutIsWithFile = (tree : Path → Option Node) (to : Path) (bytes : List ℕ) → is_directory (tree []) ≡ true
-    → (path : Path) → equations (put_commands tree to bytes) tree path ≡ with_file to bytes tree path
+    → (path : Path) → equations_of (put_commands tree to bytes) tree path ≡ with_file to bytes tree path
 
 -- the law: the texts of commands whose paths are made of names spell these commands alone
 abbrev pub TextsSpellTheirCommands : Type 0

@@ -20,11 +20,11 @@ same_kind (File bytes a) (Dir b) = false
 same_kind (Dir a) (File others b) = false
 
 -- two files of the same bytes or two directories; attributes don't matter
-abbrev pub same_contents : Node → Node → Bool
-same_contents (File bytes a) (File others b) = bytes_eq bytes others
-same_contents (Dir a) (Dir b) = true
-same_contents (File bytes a) (Dir b) = false
-same_contents (Dir a) (File others b) = false
+abbrev pub same_held : Node → Node → Bool
+same_held (File bytes a) (File others b) = bytes_eq bytes others
+same_held (Dir a) (Dir b) = true
+same_held (File bytes a) (Dir b) = false
+same_held (Dir a) (File others b) = false
 
 -- the same of what may not be there
 abbrev pub is_like : (Node → Node → Bool) → Option Node → Node → Bool
@@ -39,7 +39,7 @@ goes wanted r = not (is_like same_kind (shown_at wanted r.path) r.node)
 
 -- what is in the folder comes, unless the same is there
 abbrev pub comes : List Shown → Shown → Bool
-comes held r = not (is_like same_contents (shown_at held r.path) r.node)
+comes held r = not (is_like same_held (shown_at held r.path) r.node)
 
 abbrev pub is_dir : Shown → Bool
 is_dir r = same_kind r.node (Dir [])
@@ -58,8 +58,8 @@ abbrev pub making_node : Path → Node → Command
 making_node p (File bytes a) = Put p bytes
 making_node p (Dir a) = Mkdir p
 
-abbrev pub making : Path → Shown → Command
-making at r = making_node (at ++ r.path) r.node
+abbrev pub making_row : Path → Shown → Command
+making_row at r = making_node (at ++ r.path) r.node
 
 -- what is removed, the last path first, so that a directory is empty when it goes
 abbrev pub removals : Path → List Shown → List Shown → List Command
@@ -67,7 +67,7 @@ removals at held wanted = map (removing at) (reverse (filter (goes wanted) held)
 
 -- what is made of the rows that pass, in their order
 abbrev pub made : (Shown → Bool) → Path → List Shown → List Command
-made test at rows = map (making at) (filter test rows)
+made test at rows = map (making_row at) (filter test rows)
 
 -- what goes is removed, then directories are made, and then files are put
 abbrev pub sync_commands : Path → List Shown → List Shown → List Command
@@ -102,10 +102,10 @@ put_commands tree path bytes = lacking tree [] path ++ Put path bytes ∷ []
 
 -- ---- the tree
 
--- the equations of commands, one after another
-abbrev pub equations : List Command → (Path → Option Node) → Path → Option Node
-equations [] tree = tree
-equations (c ∷ cs) tree = equations cs (equation c tree)
+-- the equations_of of commands, one after another
+abbrev pub equations_of : List Command → (Path → Option Node) → Path → Option Node
+equations_of [] tree = tree
+equations_of (c ∷ cs) tree = equations_of cs (equation c tree)
 
 -- attributes stay where the same kind of thing stays
 abbrev pub with_kept : Option Node → Node → Node
@@ -126,9 +126,9 @@ synced_by (Some rest) wanted old = with_kept_at old (shown_at wanted rest)
 abbrev pub synced : Path → List Shown → (Path → Option Node) → Path → Option Node
 synced at wanted tree path = synced_by (below at path) wanted (tree path)
 
--- without what is at the path and below
-abbrev pub without : Path → (Path → Option Node) → Path → Option Node
-without at tree path = if is_some (below at path) then None else tree path
+-- without_below what is at the path and below
+abbrev pub without_below : Path → (Path → Option Node) → Path → Option Node
+without_below at tree path = if is_some (below at path) then None else tree path
 
 -- with the path and its parents as directories, where nothing was
 abbrev pub with_parents_by : Option Path → Option Node → Option Node

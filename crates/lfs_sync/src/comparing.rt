@@ -4,9 +4,9 @@ ghost use Rattle.std.specs.Prelude.{◌≡◌};
 ghost use Rattle.std.specs.Option.{option_map};
 ghost use Rattle.lfs_block.specs.Disk.{Disk};
 ghost use Rattle.lfs_fs.specs.RowShown.{shown_node};
-ghost use Rattle.lfs_listing.specs.Comparing.{IsComplete};
+ghost use Rattle.lfs_listing.specs.Comparing.{IsReadable};
 ghost use Rattle.lfs_sync.specs.Shown.{wanted_node};
-ghost use Rattle.lfs_sync.specs.Synced.{same_contents, same_kind};
+ghost use Rattle.lfs_sync.specs.Synced.{same_held, same_kind};
 
 use lfs_block::Blocks;
 use lfs_fs::{Row, RowBody};
@@ -25,8 +25,8 @@ pub(crate) fn same_kind(row: &Row<'_>, bytes: Option<&[u8]>) -> bool
 /// Whether a row has a file with these bytes, or a directory where there are none. Where the length is another one, nothing is read,
 /// and else slice by slice up to the first that differs.
 pub fn same_contents<B: Blocks>(disk: &B, row: &Row<'_>, bytes: Option<&[u8]>) -> bool
-    requires { IsComplete (B.disk disk.now) row.now.entry.body }
-    ensures { result ≡ same_contents (shown_node (B.disk disk.now) row.now.entry) (wanted_node (option_map (λ b. b.now) bytes.entry)) }
+    requires { IsReadable (B.disk disk.now) row.now.entry.body }
+    ensures { result ≡ same_held (shown_node (B.disk disk.now) row.now.entry) (wanted_node (option_map (λ b. b.now) bytes.entry)) }
 {
     match (&row.body, bytes) {
         (RowBody::Directory(..), None) => true,

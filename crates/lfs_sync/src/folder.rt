@@ -3,7 +3,7 @@
 ghost use Rattle.std.specs.Prelude.{◌≡◌, List, IfOk, map};
 ghost use Rattle.lfs_extract.specs.FolderRows.{AreFolderRows, AreSpelled, PathRow};
 ghost use Rattle.lfs_sync.specs.Shown.{wanted_of};
-ghost use Rattle.lfs_sync.specs.SyncRows.{AreRowsOf, folder_text, sync_text};
+ghost use Rattle.lfs_sync.specs.SyncRows.{AreRowsOfFolder, folder_text, sync_text};
 
 use crate::sync_row::SyncRow;
 use lfs_extract::FolderRow;
@@ -22,7 +22,7 @@ fn sync_row(row: &FolderRow) -> SyncRow<'_>
 /// The rows of a host's folder, in their order, which borrow its texts and contents. Want of memory is the only refusal.
 pub fn sync_rows(alloc: Global, folder: &[FolderRow]) -> Result<Vec<SyncRow<'_>>, AllocError>
     ensures { IfOk result (λ rows. (shown : List PathRow) → AreSpelled folder.now shown → AreFolderRows shown
-        → AreRowsOf rows.items (map wanted_of shown)) }
+        → AreRowsOfFolder rows.items (map wanted_of shown)) }
 {
     let mut rows = Vec::new(alloc);
     'each: for row in folder {

@@ -31,8 +31,8 @@ impl Merging {
     ghost use Rattle.std.specs.Prelude.{◌≡◌, ◌<◌, ◌==◌, [], List, OnOk, false, length};
     ghost use Rattle.std.specs.declared.cmp.Ordering.TheVariants.{Equal, Greater, Less};
     ghost use Rattle.lfs_block.specs.Disk.{Disk};
-    ghost use Rattle.lfs_listing.specs.Comparing.{IsComplete};
-    ghost use Rattle.lfs_sync.specs.Merging.{GoesOn, KeepsPlaces, PlansBoth, PlansHeld, PlansWanted, held_left, left, wanted_left};
+    ghost use Rattle.lfs_listing.specs.Comparing.{IsReadable};
+    ghost use Rattle.lfs_sync.specs.Merging.{MergingGoesOn, KeepsPlaces, PlansBoth, PlansHeld, PlansWanted, held_left, left, wanted_left};
     ghost use Rattle.lfs_listing.specs.Below.{names};
     ghost use Rattle.lfs_sync.specs.Sides.{CanBeRead, first_order, held_shown, wanted_shown};
     ghost use Rattle.lfs_sync.specs.declared.held_row.HeldRow.{HeldRow};
@@ -129,7 +129,7 @@ impl Merging {
         row: &HeldRow<'_>,
         other: &WantedRow<'_>,
     ) -> Result<(), AllocError>
-        requires { IsComplete (B.disk disk.now) row.now.row.entry.body }
+        requires { IsReadable (B.disk disk.now) row.now.row.entry.body }
         ensures places { OnOk result (KeepsPlaces self.old self.new) }
         ensures plans { OnOk result (PlansBoth (names at.now) rows.now self.old self.new (held_shown (B.disk disk.now) row.now)
             (wanted_shown rows.now other.now)) }
@@ -151,7 +151,7 @@ impl Merging {
         requires { self.old.held < length held.now }
         ensures goes_on { OnOk result ((d : Disk) (rows : List SyncRow) (wanted : List WantedRow)
             → first_order (held_left self.old held.now) (wanted_left self.old wanted) ≡ Less
-            → GoesOn d (names at.now) rows self.old self.new held.now wanted) }
+            → MergingGoesOn d (names at.now) rows self.old self.new held.now wanted) }
         ensures fewer { OnOk result ((wanted : List WantedRow) → left self.new held.now wanted < left self.old held.now wanted) }
     {
         self.plan_removal(alloc, at, &held[self.held], true)?;
@@ -170,7 +170,7 @@ impl Merging {
         requires { self.old.wanted < length wanted.now }
         ensures goes_on { OnOk result ((d : Disk) (held : List HeldRow)
             → first_order (held_left self.old held) (wanted_left self.old wanted.now) ≡ Greater
-            → GoesOn d (names at.now) rows.now self.old self.new held wanted.now) }
+            → MergingGoesOn d (names at.now) rows.now self.old self.new held wanted.now) }
         ensures fewer { OnOk result ((held : List HeldRow) → left self.new held wanted.now < left self.old held wanted.now) }
     {
         self.plan_making(alloc, at, rows, &wanted[self.wanted], true)?;
@@ -192,7 +192,7 @@ impl Merging {
         requires wanted { self.old.wanted < length wanted.now }
         requires order { first_order (held_left self.old held.now) (wanted_left self.old wanted.now) ≡ Equal }
         requires complete { CanBeRead (B.disk disk.now) held.now }
-        ensures goes_on { OnOk result (GoesOn (B.disk disk.now) (names at.now) rows.now self.old self.new held.now wanted.now) }
+        ensures goes_on { OnOk result (MergingGoesOn (B.disk disk.now) (names at.now) rows.now self.old self.new held.now wanted.now) }
         ensures fewer { OnOk result (left self.new held.now wanted.now < left self.old held.now wanted.now) }
     {
         self.plan_change(
@@ -220,7 +220,7 @@ impl Merging {
     ) -> Result<(), AllocError>
         requires some { (left self.old held.now wanted.now == 0) ≡ false }
         requires complete { CanBeRead (B.disk disk.now) held.now }
-        ensures goes_on { OnOk result (GoesOn (B.disk disk.now) (names at.now) rows.now self.old self.new held.now wanted.now) }
+        ensures goes_on { OnOk result (MergingGoesOn (B.disk disk.now) (names at.now) rows.now self.old self.new held.now wanted.now) }
         ensures fewer { OnOk result (left self.new held.now wanted.now < left self.old held.now wanted.now) }
     {
         match self.order(held, wanted) {

@@ -7,7 +7,7 @@ ghost use Rattle.lfs_sync.specs.Planned.{IsPlanOf, in_texts, plan_asked};
 ghost use Rattle.lfs_sync.specs.Shown.{Shown, ShownRise, held_of};
 ghost use Rattle.lfs_listing.specs.Below.{names};
 ghost use Rattle.lfs_sync.specs.Sides.{CanBeRead, held_all, wanted_all};
-ghost use Rattle.lfs_sync.specs.SyncRows.{AreRowsOf, SayFolder};
+ghost use Rattle.lfs_sync.specs.SyncRows.{AreRowsOfFolder, SayFolder};
 ghost use Rattle.lfs_sync.specs.Synced.{sync_commands};
 ghost use Rattle.lfs_sync.specs.declared.planned.PlannedKind.TheVariants.{Mkdir};
 
@@ -93,7 +93,7 @@ pub fn sync_plan<B: Blocks>(
 ) -> Result<Vec<Planned>, AllocError>
     requires mounted { IsMountOf (B.disk disk.now) mounted.now }
     requires rows { SayFolder rows.now }
-    ensures { IfOk result (λ plan. (wanted : List Shown) → AreRowsOf rows.now wanted
+    ensures { IfOk result (λ plan. (wanted : List Shown) → AreRowsOfFolder rows.now wanted
         → IsPlanOf at.now Mkdir (λ path. sync_commands path (held_of (B.disk disk.now) path mounted.now.rows) wanted) rows.now
         (plan_asked rows.now plan.items)) }
 {

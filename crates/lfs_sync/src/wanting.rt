@@ -5,7 +5,7 @@ ghost use Rattle.lfs_fs.specs.Path.{IsPathText, Path};
 ghost use Rattle.lfs_sync.specs.Shown.{Shown};
 ghost use Rattle.lfs_listing.specs.Below.{names};
 ghost use Rattle.lfs_sync.specs.Sides.{wanted_all};
-ghost use Rattle.lfs_sync.specs.SyncRows.{AreRowsOf, SayFolder};
+ghost use Rattle.lfs_sync.specs.SyncRows.{AreRowsOfFolder, SayFolder};
 
 use crate::sync_row::SyncRow;
 use crate::texts::names_in;
@@ -30,7 +30,7 @@ pub(crate) fn wanted_rows<'a>(
     rows: &[SyncRow<'a>],
 ) -> Result<Vec<WantedRow<'a>>, AllocError>
     requires { SayFolder rows.now }
-    ensures { IfOk result (λ all. (wanted : List Shown) → AreRowsOf rows.now wanted → wanted_all rows.now all.items ≡ wanted) }
+    ensures { IfOk result (λ all. (wanted : List Shown) → AreRowsOfFolder rows.now wanted → wanted_all rows.now all.items ≡ wanted) }
 {
     texts_spell_one_path();
     let mut all = Vec::new(alloc);

@@ -4,16 +4,16 @@ use Rattle.std.specs.Prelude.{ℕ, ◌+◌, ◌*◌, ◌/◌, ◌%◌, ◌^◌, 
 use Rattle.lfs_tag.specs.declared.tag.Tag.{Tag}
 
 -- the type
-abbrev pub kind_of : ℕ → ℕ
-kind_of word = word / 2 ^ 20 % 2 ^ 11
+abbrev pub type_of : ℕ → ℕ
+type_of word = word / 2 ^ 20 % 2 ^ 11
 
 -- the upper 3 bits of the type
 abbrev pub main_kind : ℕ → ℕ
-main_kind word = kind_of word / 2 ^ 8
+main_kind word = type_of word / 2 ^ 8
 
 -- the lower 8 bits of the type
 abbrev pub chunk_of : ℕ → ℕ
-chunk_of word = kind_of word % 2 ^ 8
+chunk_of word = type_of word % 2 ^ 8
 
 -- the entry that the tag is about
 abbrev pub id_of : ℕ → ℕ

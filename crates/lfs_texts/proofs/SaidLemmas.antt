@@ -3,7 +3,7 @@ use Rattle.std.proofs.Common.{◌≡◌, ◌∙◌, ℕ, List, [], ◌∷◌, �
 use Rattle.std.specs.List.{AllByRecursion, AllZip}
 use Rattle.lfs_texts.specs.Flaws.{known_flaw}
 use Rattle.lfs_texts.specs.Lines.{IsLineFault, LineSays}
-use Rattle.lfs_texts.specs.Script.{AreSplit, HasItsWords, IsFirstFault, IsFirstSilent, IsLineWords, IsSaid, Numbered, SaysLine, TakesStep, asking_lines}
+use Rattle.lfs_texts.specs.Script.{AreSplit, HasItsWords, IsFirstFault, IsFirstSilent, IsLineWords, IsLineSaid, NumberedLine, SaysLine, TakesStep, asking_lines}
 use Rattle.lfs_texts.specs.Steps.{Keeps}
 use Rattle.lfs_texts.specs.declared.line_words.LineWords.{LineWords}
 use Rattle.lfs_texts.specs.declared.script_fault.ScriptFault.{ScriptFault}
@@ -15,7 +15,7 @@ use Rattle.lfs_texts.specs.declared.script_line.ScriptLine.{ScriptLine}
 pub record HasTaken (keep : Option ℕ) (lines left : List LineWords) (said : List ScriptLine) : Type 0 where
   pub before : List LineWords
   pub apart : lines ≡ before ++ left
-  pub says : AllZip IsSaid before said
+  pub says : AllZip IsLineSaid before said
   pub keeps : AllByRecursion (λ (s : ScriptLine). Keeps keep s.step) said
   pub words : AllByRecursion HasItsWords left
 
@@ -25,13 +25,13 @@ pub none_taken : (keep : Option ℕ) (lines left : List LineWords) (said : List 
 none_taken keep lines left said is none words = record {
   before = [];
   apart = sym is;
-  says = subst (AllZip IsSaid []) (sym none) tt;
+  says = subst (AllZip IsLineSaid []) (sym none) tt;
   keeps = subst (AllByRecursion (λ (s : ScriptLine). Keeps keep s.step)) (sym none) tt;
   words = subst (AllByRecursion HasItsWords) (sym is) words;
 }
 
 says_more : (lines : List LineWords) (said : List ScriptLine) (line : LineWords) (one : ScriptLine)
-    → AllZip IsSaid lines said → IsSaid line one → AllZip IsSaid (lines ++ line ∷ []) (said ++ one ∷ [])
+    → AllZip IsLineSaid lines said → IsLineSaid line one → AllZip IsLineSaid (lines ++ line ∷ []) (said ++ one ∷ [])
 says_more [] [] line one all is = (is, tt)
 says_more [] (s ∷ said) line one all is = absurd all
 says_more (l ∷ lines) [] line one all is = absurd all
@@ -52,16 +52,16 @@ pub one_taken : (keep : Option ℕ) (lines left rest : List LineWords) (line : L
 one_taken keep lines left rest line old new taken is (one, says, keeps, more) = record {
   before = taken.before ++ line ∷ [];
   apart = taken.apart ∙ ap (λ (ls : List LineWords). taken.before ++ ls) is ∙ sym (append_assoc taken.before (line ∷ []) rest);
-  says = subst (AllZip IsSaid (taken.before ++ line ∷ [])) (sym more) (says_more taken.before old line one taken.says says);
+  says = subst (AllZip IsLineSaid (taken.before ++ line ∷ [])) (sym more) (says_more taken.before old line one taken.says says);
   keeps = subst (AllByRecursion (λ (s : ScriptLine). Keeps keep s.step)) (sym more) (keeps_more keep old one taken.keeps keeps);
   words = (subst (AllByRecursion HasItsWords) is taken.words).1;
 }
 
 -- all of them where none is left
 pub all_taken : (keep : Option ℕ) (lines left : List LineWords) (said : List ScriptLine) → HasTaken keep lines left said → left ≡ []
-    → AllZip IsSaid lines said
+    → AllZip IsLineSaid lines said
 all_taken keep lines left said taken none =
-    subst (λ (ls : List LineWords). AllZip IsSaid ls said)
+    subst (λ (ls : List LineWords). AllZip IsLineSaid ls said)
     (sym (taken.apart ∙ ap (λ (ls : List LineWords). taken.before ++ ls) none ∙ append-nil taken.before)) taken.says
 
 -- one that says no step is the first
@@ -83,7 +83,7 @@ first_silent keep lines left rest line said fault taken is number refused known 
 -- ---- over the lines of the text
 
 -- lines of a text have their words
-has_words : (asked : List Numbered) (lines : List LineWords) → AllZip IsLineWords asked lines → AllByRecursion HasItsWords lines
+has_words : (asked : List NumberedLine) (lines : List LineWords) → AllZip IsLineWords asked lines → AllByRecursion HasItsWords lines
 has_words [] [] all = tt
 has_words [] (w ∷ lines) all = absurd all
 has_words (l ∷ asked) [] all = absurd all
@@ -95,12 +95,12 @@ split_words text lines None split = has_words (asking_lines text) lines split
 split_words text lines (Some fault) split = has_words split.before lines split.split
 
 -- a line asks for what its words say
-says_line : (line : Numbered) (words : LineWords) (said : ScriptLine) → IsLineWords line words → IsSaid words said → SaysLine line said
+says_line : (line : NumberedLine) (words : LineWords) (said : ScriptLine) → IsLineWords line words → IsLineSaid words said → SaysLine line said
 says_line line words said split is =
     (is.0 ∙ split.0, subst (λ (text : List ℕ). LineSays text said.step) split.1 is.1)
 
 -- so do several
-says_lines : (asked : List Numbered) (lines : List LineWords) (said : List ScriptLine) → AllZip IsLineWords asked lines → AllZip IsSaid lines said
+says_lines : (asked : List NumberedLine) (lines : List LineWords) (said : List ScriptLine) → AllZip IsLineWords asked lines → AllZip IsLineSaid lines said
     → AllZip SaysLine asked said
 says_lines [] [] [] split says = tt
 says_lines [] [] (s ∷ said) split says = absurd says
@@ -110,16 +110,16 @@ says_lines (l ∷ asked) (w ∷ lines) [] split says = absurd says
 says_lines (l ∷ asked) (w ∷ lines) (s ∷ said) split says = (says_line l w s split.0 says.0, says_lines asked lines said split.1 says.1)
 
 -- lines of a text with their words, cut at one of these
-record IsCutAt (asked : List Numbered) (before : List LineWords) (line : LineWords) : Type 0 where
-  front : List Numbered
+record IsCutAt (asked : List NumberedLine) (before : List LineWords) (line : LineWords) : Type 0 where
+  front : List NumberedLine
   number : ℕ
   text : List ℕ
-  rest : List Numbered
+  rest : List NumberedLine
   apart : asked ≡ front ++ (number, text) ∷ rest
   fronts : AllZip IsLineWords front before
   is : IsLineWords (number, text) line
 
-cut_at : (asked : List Numbered) (before behind : List LineWords) (line : LineWords) → AllZip IsLineWords asked (before ++ line ∷ behind)
+cut_at : (asked : List NumberedLine) (before behind : List LineWords) (line : LineWords) → AllZip IsLineWords asked (before ++ line ∷ behind)
     → IsCutAt asked before line
 cut_at [] [] behind line split = absurd split
 cut_at [] (w ∷ before) behind line split = absurd split
@@ -132,18 +132,18 @@ cut_at (l ∷ asked) (w ∷ before) behind line split =
       number = more.number;
       text = more.text;
       rest = more.rest;
-      apart = ap (λ (ls : List Numbered). l ∷ ls) more.apart;
+      apart = ap (λ (ls : List NumberedLine). l ∷ ls) more.apart;
       fronts = (split.0, more.fronts);
       is = more.is;
     }
 
-joined : (front rest behind : List Numbered) (text : List ℕ) (n m : ℕ) → n ≡ m
+joined : (front rest behind : List NumberedLine) (text : List ℕ) (n m : ℕ) → n ≡ m
     → (front ++ (n, text) ∷ rest) ++ behind ≡ front ++ (m, text) ∷ (rest ++ behind)
 joined front rest behind text n m same =
     append_assoc front ((n, text) ∷ rest) behind ∙ ap (λ (k : ℕ). front ++ (k, text) ∷ (rest ++ behind)) same
 
 -- the first that says no step is the first of the text, whatever stands behind them
-silent_first : (text : List ℕ) (asked behind : List Numbered) (lines : List LineWords) (fault : ScriptFault) → asking_lines text ≡ asked ++ behind
+silent_first : (text : List ℕ) (asked behind : List NumberedLine) (lines : List LineWords) (fault : ScriptFault) → asking_lines text ≡ asked ++ behind
     → AllZip IsLineWords asked lines → IsFirstSilent lines fault → IsFirstFault text fault
 silent_first text asked behind lines fault are split silent =
     let cut = cut_at asked silent.before silent.behind silent.line (subst (AllZip IsLineWords asked) silent.asked split) in
@@ -153,7 +153,7 @@ silent_first text asked behind lines fault are split silent =
       before = cut.front;
       behind = cut.rest ++ behind;
       said = silent.said;
-      asked = are ∙ ap (λ (ls : List Numbered). ls ++ behind) cut.apart
+      asked = are ∙ ap (λ (ls : List NumberedLine). ls ++ behind) cut.apart
           ∙ joined cut.front cut.rest behind cut.text cut.number fault.number number;
       says = says_lines cut.front silent.before silent.said cut.fronts silent.says;
       refused = subst (λ (l : List ℕ). IsLineFault l fault.fault) cut.is.1 silent.refused;
@@ -170,7 +170,7 @@ silent_is_first text lines (Some fault) silent split is =
 
 -- where all before it say steps, the first line that has no words is the first that says none
 pub wordless_is_first : (text : List ℕ) (lines : List LineWords) (said : List ScriptLine) (fault : ScriptFault) → AreSplit text lines (Some fault)
-    → AllZip IsSaid lines said → IsFirstFault text fault
+    → AllZip IsLineSaid lines said → IsFirstFault text fault
 wordless_is_first text lines said fault split says = record {
   line = split.line;
   before = split.before;
@@ -183,6 +183,6 @@ wordless_is_first text lines said fault split says = record {
 }
 
 -- where all lines have words, what these say is what they ask for
-pub all_said : (text : List ℕ) (lines : List LineWords) (said : List ScriptLine) → AreSplit text lines None → AllZip IsSaid lines said
+pub all_said : (text : List ℕ) (lines : List LineWords) (said : List ScriptLine) → AreSplit text lines None → AllZip IsLineSaid lines said
     → AllZip SaysLine (asking_lines text) said
 all_said text lines said split says = says_lines (asking_lines text) lines said split says

@@ -3,12 +3,12 @@ use Rattle.std.proofs.Common.{◌≡◌, ◌∙◌, ℕ, suc, ◌+◌, Bool, tru
 use Rattle.std.proofs.Common.{inl, inr, append_assoc, append-nil, zero-add}
 use Rattle.std.specs.List.{AllZip}
 use Rattle.lfs_texts.specs.Lines.{is_passed_over}
-use Rattle.lfs_texts.specs.Script.{IsLineWords, Numbered, SplitsLine, asking_from, asking_lines, lines_in}
+use Rattle.lfs_texts.specs.Script.{IsLineWords, NumberedLine, SplitsLine, asking_from, asking_lines, lines_in}
 use Rattle.lfs_texts.specs.declared.line_words.LineWords.{LineWords}
 
 -- so many lines of a text were read, with their words, and these are left
 pub record HasRead (text : List ℕ) (number : ℕ) (left : List (List ℕ)) (words : List LineWords) : Type 0 where
-  pub before : List Numbered
+  pub before : List NumberedLine
   pub asked : asking_lines text ≡ before ++ asking_from (number + 1) left
   pub split : AllZip IsLineWords before words
   pub counted : number + length left ≡ length (lines_in text)
@@ -23,7 +23,7 @@ none_read text left words is none = record {
 }
 
 -- a line with its words stands behind the rest
-split_more : (lines : List Numbered) (words : List LineWords) (line : Numbered) (one : LineWords)
+split_more : (lines : List NumberedLine) (words : List LineWords) (line : NumberedLine) (one : LineWords)
     → AllZip IsLineWords lines words → IsLineWords line one → AllZip IsLineWords (lines ++ line ∷ []) (words ++ one ∷ [])
 split_more [] [] line one all is = (is, tt)
 split_more [] (w ∷ words) line one all is = absurd all
@@ -43,7 +43,7 @@ asked_at : (text : List ℕ) (number : ℕ) (left rest : List (List ℕ)) (line 
 asked_at text number left rest line words read is asks =
     read.asked
     ∙ ap (λ (ls : List (List ℕ)). read.before ++ asking_from (number + 1) ls) is
-    ∙ ap (λ (ls : List Numbered). read.before ++ ls) (asking_first (number + 1) line rest false asks)
+    ∙ ap (λ (ls : List NumberedLine). read.before ++ ls) (asking_first (number + 1) line rest false asks)
 
 counted_more : (text : List ℕ) (number : ℕ) (left rest : List (List ℕ)) (line : List ℕ) → left ≡ line ∷ rest
     → number + length left ≡ length (lines_in text) → number + 1 + length rest ≡ length (lines_in text)
@@ -58,7 +58,7 @@ line_read text number left rest line old new read is (inl over) = record {
   before = read.before;
   asked = read.asked
       ∙ ap (λ (ls : List (List ℕ)). read.before ++ asking_from (number + 1) ls) is
-      ∙ ap (λ (ls : List Numbered). read.before ++ ls) (asking_first (number + 1) line rest true over.0);
+      ∙ ap (λ (ls : List NumberedLine). read.before ++ ls) (asking_first (number + 1) line rest true over.0);
   split = subst (AllZip IsLineWords read.before) (sym over.1) read.split;
   counted = counted_more text number left rest line is read.counted;
 }
@@ -75,5 +75,5 @@ line_read text number left rest line old new read is (inr asks) = record {
 pub all_read : (text : List ℕ) (number : ℕ) (left : List (List ℕ)) (words : List LineWords) → HasRead text number left words → left ≡ []
     → AllZip IsLineWords (asking_lines text) words
 all_read text number left words read none =
-    subst (λ (lines : List Numbered). AllZip IsLineWords lines words)
+    subst (λ (lines : List NumberedLine). AllZip IsLineWords lines words)
     (sym (read.asked ∙ ap (λ (ls : List (List ℕ)). read.before ++ asking_from (number + 1) ls) none ∙ append-nil read.before)) read.split

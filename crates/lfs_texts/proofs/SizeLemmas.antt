@@ -7,7 +7,7 @@ use Rattle.std.specs.Prelude.{◌≢◌, ◌⊎◌, Err, IsNone}
 use Rattle.std.specs.Option.{SomeIff}
 use Rattle.std.specs.Str.{bytes_eq}
 use Rattle.std.specs.Str.Parse.{ParsesUnsigned, digits_value, without_leading_plus}
-use Rattle.lfs_texts.specs.Sizes.{HasUnit, IsHexadecimal, SaysNoBlock, SaysNoBytes, Writes}
+use Rattle.lfs_texts.specs.Sizes.{HasUnit, IsHexadecimal, SaysNoBlock, SaysNoBytes, WritesNumber}
 
 -- a text has its digits and its unit once
 units_agree : (text d e : List ℕ) (u v : ℕ) → HasUnit text d u → HasUnit text e v → (d ≡ e) × (u ≡ v)
@@ -27,7 +27,7 @@ unit_some text d u (inr (inl a)) = omega (arith, a.2)
 unit_some text d u (inr (inr a)) = omega (arith, a.3)
 
 no_decimal : (text d : List ℕ) (u : ℕ) → ((e : List ℕ) → ¬ IsHexadecimal text e) → HasUnit text d u
-    → ((n : ℕ) → Writes 10 d n → ¬ (n * u < 2 ^ 64)) → SaysNoBytes text
+    → ((n : ℕ) → WritesNumber 10 d n → ¬ (n * u < 2 ^ 64)) → SaysNoBytes text
 no_decimal text d u decimal has none bytes (inl s) small = decimal s.0 s.1
 no_decimal text d u decimal has none bytes (inr s) small =
     let e = s.1.0 in
@@ -35,7 +35,7 @@ no_decimal text d u decimal has none bytes (inr s) small =
     let n = s.1.2 in
     let same = units_agree text e d v u s.1.3 has in
     let is : bytes ≡ n * u = s.1.5 ∙ ap (λ (w : ℕ). n * w) same.1 in
-    none n (subst (λ (t : List ℕ). Writes 10 t n) same.0 s.1.4) (subst (λ (m : ℕ). m < 2 ^ 64) is small)
+    none n (subst (λ (t : List ℕ). WritesNumber 10 t n) same.0 s.1.4) (subst (λ (m : ℕ). m < 2 ^ 64) is small)
 
 -- ---- what is read of digits
 
@@ -66,17 +66,17 @@ in_blocks bytes block complete = omega (arith, div-add-mod' bytes block, complet
 
 -- the size that a text says, where `auto` stands for the stated one
 abbrev pub IsSizeSaid : List ℕ → ℕ → ℕ → Type 0
-IsSizeSaid text stated size = ((text ≡ codes "auto") × (size ≡ stated)) ⊎ ((text ≢ codes "auto") × Writes 10 text size)
+IsSizeSaid text stated size = ((text ≡ codes "auto") × (size ≡ stated)) ⊎ ((text ≢ codes "auto") × WritesNumber 10 text size)
 
 pub said_auto : (text : List ℕ) (stated size : ℕ) (same : Bool) → same ≡ bytes_eq text (codes "auto") → same ≡ true → size ≡ stated
     → IsSizeSaid text stated size
 said_auto text stated size same tells is auto = inl ((bytes_eq-Decides text (codes "auto")).0 (sym tells ∙ is), auto)
 
 pub said_digits : (text : List ℕ) (stated size number : ℕ) (same : Bool) → same ≡ bytes_eq text (codes "auto") → same ≡ false
-    → size ≡ number → Writes 10 text number → IsSizeSaid text stated size
+    → size ≡ number → WritesNumber 10 text number → IsSizeSaid text stated size
 said_digits text stated size number same tells not is writes = inr (
   λ auto. true≢false (sym ((bytes_eq-Decides text (codes "auto")).1 auto) ∙ sym tells ∙ not),
-  subst (Writes 10 text) (sym is) writes,
+  subst (WritesNumber 10 text) (sym is) writes,
 )
 
 -- a text says one size

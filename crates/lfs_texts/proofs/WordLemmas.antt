@@ -6,7 +6,7 @@ use Rattle.std.specs.Fmt.{option_append}
 use Rattle.std.specs.Result.{result_ok}
 use Rattle.hex.specs.Hex.{decode_pairs}
 use Rattle.hex.specs.declared.error.FromHexError.{FromHexError}
-use Rattle.lfs_texts.specs.Words.{word_bytes, word_of, word_before, all_words}
+use Rattle.lfs_texts.specs.Words.{word_bytes, some_word, word_before, all_words}
 
 -- one byte more
 pub one_byte_more : (bytes : List ℕ) (byte : ℕ) (left : Option (List ℕ))
@@ -65,7 +65,7 @@ pub word_taken : {Z : Type 0} (all : Option (List (List ℕ))) (left rest : List
     (words new : List (Vec ℕ Z)) (word : Vec ℕ Z)
     → all ≡ words_before (words_in words) (all_words left)
     → left ≡ piece ∷ rest
-    → word_of piece ≡ Some word.items
+    → some_word piece ≡ Some word.items
     → new ≡ words ++ word ∷ []
     → all ≡ words_before (words_in new) (all_words rest)
 word_taken all left rest piece words new word before is stands more =

@@ -9,9 +9,9 @@ use Rattle.lfs_texts.specs.declared.script_fault.ScriptFault.{ScriptFault}
 use Rattle.lfs_texts.specs.declared.script_line.ScriptLine.{ScriptLine}
 
 -- a step is a command: only commands become one change
-abbrev pub is_command : Move Source → Bool
-is_command (Do command keep) = true
-is_command _ = false
+abbrev pub is_command_step : Move Source → Bool
+is_command_step (Do command keep) = true
+is_command_step _ = false
 
 -- a line of this number says a step that is none, by its first word
 abbrev pub no_command : ℕ → ScriptFault
@@ -20,4 +20,4 @@ no_command number = record { number = number; fault = BadLine; flaw = Some (reco
 -- the first of lines whose step is none
 abbrev pub first_other : List ScriptLine → Option ScriptFault
 first_other [] = None
-first_other (line ∷ lines) = if is_command line.step then first_other lines else Some (no_command line.number)
+first_other (line ∷ lines) = if is_command_step line.step then first_other lines else Some (no_command line.number)

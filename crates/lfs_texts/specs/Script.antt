@@ -11,34 +11,34 @@ use Rattle.lfs_texts.specs.declared.script_line.ScriptLine.{ScriptLine}
 use Rattle.lfs_texts.specs.declared.script_fault.ScriptFault.{ScriptFault}
 
 -- a line with its number
-abbrev pub Numbered : Type 0
-Numbered = ℕ × List ℕ
+abbrev pub NumberedLine : Type 0
+NumberedLine = ℕ × List ℕ
 
 -- the lines of a text, without what ends them
 abbrev pub lines_in : List ℕ → List (List ℕ)
 lines_in text = map without_terminator (lines_of text)
 
 -- the line of a number, from 1 on
-abbrev pub line_of : List ℕ → ℕ → Option (List ℕ)
-line_of text number = if number == 0 then None else slice_get (lines_in text) (number - 1)
+abbrev pub numbered_line : List ℕ → ℕ → Option (List ℕ)
+numbered_line text number = if number == 0 then None else slice_get (lines_in text) (number - 1)
 
 -- of lines whose first has this number those that aren't passed over
-abbrev pub asking_from : ℕ → List (List ℕ) → List Numbered
+abbrev pub asking_from : ℕ → List (List ℕ) → List NumberedLine
 asking_from number lines = filter (λ line. not (is_passed_over line.1)) (enumerate_from number lines)
 
 -- the lines of a text that aren't passed over, with their numbers, from 1 on
-abbrev pub asking_lines : List ℕ → List Numbered
+abbrev pub asking_lines : List ℕ → List NumberedLine
 asking_lines text = asking_from 1 (lines_in text)
 
 -- what a line asks for: its number, and the step that it says
-abbrev pub SaysLine : Numbered → ScriptLine → Type 0
+abbrev pub SaysLine : NumberedLine → ScriptLine → Type 0
 SaysLine line said = (said.number ≡ line.0) × LineSays line.1 said.step
 
 -- the first line of a text that says no step, behind others that each say one, with what is wrong in it; or want of memory there
 pub record IsFirstFault (text : List ℕ) (fault : ScriptFault) : Type 0 where
   pub line : List ℕ
-  pub before : List Numbered
-  pub behind : List Numbered
+  pub before : List NumberedLine
+  pub behind : List NumberedLine
   pub said : List ScriptLine
   pub asked : asking_lines text ≡ before ++ (fault.number, line) ∷ behind
   pub says : AllZip SaysLine before said
@@ -52,11 +52,11 @@ abbrev pub HasItsWords : LineWords → Type 0
 HasItsWords line = words_of line.line.now ≡ Some (map (λ w. w.items) line.words.items)
 
 -- a line that asks, with its words
-abbrev pub IsLineWords : Numbered → LineWords → Type 0
+abbrev pub IsLineWords : NumberedLine → LineWords → Type 0
 IsLineWords line words = (words.number ≡ line.0) × (words.line.now ≡ line.1) × HasItsWords words
 
 -- one more line stands with its words behind the rest, unless it is passed over
-abbrev pub SplitsLine : Numbered → List LineWords → List LineWords → Type 0
+abbrev pub SplitsLine : NumberedLine → List LineWords → List LineWords → Type 0
 SplitsLine line old new =
     ((is_passed_over line.1 ≡ true) × (new ≡ old))
     ⊎ ((is_passed_over line.1 ≡ false) × ((words : LineWords) × IsLineWords line words × (new ≡ old ++ words ∷ [])))
@@ -64,8 +64,8 @@ SplitsLine line old new =
 -- the first line of a text that has no words, behind others with theirs, with what is wrong in it; or want of memory there
 pub record IsFirstWordless (text : List ℕ) (lines : List LineWords) (fault : ScriptFault) : Type 0 where
   pub line : List ℕ
-  pub before : List Numbered
-  pub behind : List Numbered
+  pub before : List NumberedLine
+  pub behind : List NumberedLine
   pub asked : asking_lines text ≡ before ++ (fault.number, line) ∷ behind
   pub split : AllZip IsLineWords before lines
   pub refused : IsLineFault line fault.fault
@@ -79,12 +79,12 @@ AreSplit text lines (Some fault) = IsFirstWordless text lines fault
 -- ---- what they ask for
 
 -- what a line with its words asks for: its number, and the step that it says
-abbrev pub IsSaid : LineWords → ScriptLine → Type 0
-IsSaid line said = (said.number ≡ line.number) × LineSays line.line.now said.step
+abbrev pub IsLineSaid : LineWords → ScriptLine → Type 0
+IsLineSaid line said = (said.number ≡ line.number) × LineSays line.line.now said.step
 
 -- so it does, behind the rest, with so many images of the past that are kept
 abbrev pub TakesStep : Option ℕ → LineWords → List ScriptLine → List ScriptLine → Type 0
-TakesStep keep line old new = (said : ScriptLine) × IsSaid line said × Keeps keep said.step × (new ≡ old ++ said ∷ [])
+TakesStep keep line old new = (said : ScriptLine) × IsLineSaid line said × Keeps keep said.step × (new ≡ old ++ said ∷ [])
 
 -- the first of some lines that says no step, behind others that each say one, with what is wrong in it; or want of memory there
 pub record IsFirstSilent (lines : List LineWords) (fault : ScriptFault) : Type 0 where
@@ -93,7 +93,7 @@ pub record IsFirstSilent (lines : List LineWords) (fault : ScriptFault) : Type 0
   pub behind : List LineWords
   pub said : List ScriptLine
   pub asked : lines ≡ before ++ line ∷ behind
-  pub says : AllZip IsSaid before said
+  pub says : AllZip IsLineSaid before said
   pub number : fault.number ≡ line.number
   pub refused : IsLineFault line.line.now fault.fault
   pub known : fault.flaw ≡ known_flaw line.line.now fault.fault

@@ -5,20 +5,20 @@ use Rattle.lfs_texts.specs.declared.sizes.SizeFault.{SizeFault}
 use Rattle.lfs_texts.specs.declared.sizes.SizeFault.TheVariants.{NoNumber, NoMultiple, OutOfRange}
 
 -- digits of this radix that write a number, where a plus may stand first
-abbrev pub Writes : ℕ → List ℕ → ℕ → Type 0
-Writes radix digits number =
+abbrev pub WritesNumber : ℕ → List ℕ → ℕ → Type 0
+WritesNumber radix digits number =
     IsNumeral radix (without_leading_plus digits) × (number ≡ digits_value radix (without_leading_plus digits))
 
 -- a text ends with another
-abbrev pub EndsWith : List ℕ → List ℕ → Type 0
-EndsWith text end = (front : List ℕ) × (text ≡ front ++ end)
+abbrev pub TextEndsWith : List ℕ → List ℕ → Type 0
+TextEndsWith text end = (front : List ℕ) × (text ≡ front ++ end)
 
 -- the digits of a text, and how many bytes the last of them stands for: 1,024 before `k`, 1,048,576 before `M`, else 1
 abbrev pub HasUnit : List ℕ → List ℕ → ℕ → Type 0
 HasUnit text digits unit =
     ((text ≡ digits ++ codes "k") × (unit ≡ 1024))
-    ⊎ (¬ EndsWith text (codes "k") × (text ≡ digits ++ codes "M") × (unit ≡ 1048576))
-    ⊎ (¬ EndsWith text (codes "k") × ¬ EndsWith text (codes "M") × (digits ≡ text) × (unit ≡ 1))
+    ⊎ (¬ TextEndsWith text (codes "k") × (text ≡ digits ++ codes "M") × (unit ≡ 1048576))
+    ⊎ (¬ TextEndsWith text (codes "k") × ¬ TextEndsWith text (codes "M") × (digits ≡ text) × (unit ≡ 1))
 
 -- `0x` stands before the digits
 abbrev pub IsHexadecimal : List ℕ → List ℕ → Type 0
@@ -27,9 +27,9 @@ IsHexadecimal text digits = text ≡ codes "0x" ++ digits
 -- a text says so many bytes
 abbrev pub SaysBytes : List ℕ → ℕ → Type 0
 SaysBytes text bytes =
-    ((digits : List ℕ) × IsHexadecimal text digits × Writes 16 digits bytes)
+    ((digits : List ℕ) × IsHexadecimal text digits × WritesNumber 16 digits bytes)
     ⊎ (((digits : List ℕ) → ¬ IsHexadecimal text digits)
-    × ((digits : List ℕ) × (unit : ℕ) × (number : ℕ) × HasUnit text digits unit × Writes 10 digits number × (bytes ≡ number * unit)))
+    × ((digits : List ℕ) × (unit : ℕ) × (number : ℕ) × HasUnit text digits unit × WritesNumber 10 digits number × (bytes ≡ number * unit)))
 
 -- it says no number of bytes below 2 ^ 64
 abbrev pub SaysNoBytes : List ℕ → Type 0
@@ -49,7 +49,7 @@ IsSizeFault (OutOfRange bytes size) text block =
 -- a text says the size of a block, where `auto` stands for this one
 abbrev pub SaysBlock : List ℕ → ℕ → ℕ → Type 0
 SaysBlock text stated size =
-    (((text ≡ codes "auto") × (size ≡ stated)) ⊎ ((text ≢ codes "auto") × Writes 10 text size)) × (256 ≤ size) × (size ≤ 65536)
+    (((text ≡ codes "auto") × (size ≡ stated)) ⊎ ((text ≢ codes "auto") × WritesNumber 10 text size)) × (256 ≤ size) × (size ≤ 65536)
 
 -- it says none
 abbrev pub SaysNoBlock : List ℕ → ℕ → Type 0

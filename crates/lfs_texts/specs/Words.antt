@@ -19,9 +19,9 @@ word_bytes (first ∷ mark ∷ high ∷ low ∷ rest) =
 word_bytes (first ∷ rest) = if first == 92 then None else option_append (Some (first ∷ [])) (word_bytes rest)
 
 -- the same of a word that isn't empty
-abbrev pub word_of : List ℕ → Option (List ℕ)
-word_of [] = None
-word_of (first ∷ rest) = word_bytes (first ∷ rest)
+abbrev pub some_word : List ℕ → Option (List ℕ)
+some_word [] = None
+some_word (first ∷ rest) = word_bytes (first ∷ rest)
 
 -- a word before others, where there are all of them
 abbrev pub word_before : Option (List ℕ) → Option (List (List ℕ)) → Option (List (List ℕ))
@@ -31,7 +31,7 @@ word_before _ _ = None
 -- what each of some words stands for
 abbrev pub all_words : List (List ℕ) → Option (List (List ℕ))
 all_words [] = Some []
-all_words (text ∷ texts) = word_before (word_of text) (all_words texts)
+all_words (text ∷ texts) = word_before (some_word text) (all_words texts)
 
 -- the words of a line, which single spaces part
 abbrev pub words_of : List ℕ → Option (List (List ℕ))

@@ -2,7 +2,7 @@
 
 ghost use Rattle.std.specs.Prelude.{◌≡◌, ◌<◌, ◌+◌, ◌⊎◌, ◌∷◌, [], IfErr, IfNone, IfOk, IfSome, length};
 ghost use Rattle.std.specs.Fmt.{option_append};
-ghost use Rattle.lfs_texts.specs.Words.{word_bytes, word_of};
+ghost use Rattle.lfs_texts.specs.Words.{word_bytes, some_word};
 ghost use Rattle.lfs_texts.specs.declared.line_fault.LineFault.TheVariants.{BadLine, Memory};
 
 use crate::digits::byte_of;
@@ -30,8 +30,8 @@ fn first_of<'a>(first: u8, rest: &'a [u8]) -> Option<(u8, &'a [u8])>
 /// The bytes that a word stands for. `BadLine` where it is empty, or a backslash in it says no byte; `Memory` says only
 /// that a growth was refused.
 pub(crate) fn word_of(alloc: Global, text: &[u8]) -> Result<Vec<u8>, LineFault>
-    ensures word { IfOk result (λ word. word_of text.now ≡ Some word.items) }
-    ensures refused { IfErr result (λ fault. (fault ≡ Memory) ⊎ ((fault ≡ BadLine) × (word_of text.now ≡ None))) }
+    ensures word { IfOk result (λ word. some_word text.now ≡ Some word.items) }
+    ensures refused { IfErr result (λ fault. (fault ≡ Memory) ⊎ ((fault ≡ BadLine) × (some_word text.now ≡ None))) }
 {
     if text.is_empty() {
         return Err(LineFault::BadLine);

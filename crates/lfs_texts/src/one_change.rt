@@ -1,7 +1,7 @@
 //! Scripts whose steps are one change.
 
 ghost use Rattle.std.specs.Prelude.{◌≡◌};
-ghost use Rattle.lfs_texts.specs.OneChange.{first_other, is_command, no_command};
+ghost use Rattle.lfs_texts.specs.OneChange.{first_other, is_command_step, no_command};
 
 use crate::flaw::Flaw;
 use crate::line_fault::LineFault;
@@ -12,7 +12,7 @@ use lfs_history::{Move, Source};
 
 /// Whether a step is a command.
 fn is_command(step: &Move<'_, Source<'_>>) -> bool
-    ensures { result ≡ is_command step.now }
+    ensures { result ≡ is_command_step step.now }
 {
     matches!(step, Move::Do { .. })
 }

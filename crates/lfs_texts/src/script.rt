@@ -4,7 +4,7 @@ ghost use Rattle.std.specs.Prelude.{◌≡◌, IfErr, OnErr, OnOk, false};
 ghost use Rattle.std.specs.Option.{option_map};
 ghost use Rattle.lfs_texts.specs.Flaws.{known_flaw};
 ghost use Rattle.lfs_texts.specs.Lines.{IsLineFault, is_passed_over};
-ghost use Rattle.lfs_texts.specs.Script.{SplitsLine, line_of};
+ghost use Rattle.lfs_texts.specs.Script.{SplitsLine, numbered_line};
 
 use crate::flaws::flaw_of;
 use crate::line_fault::LineFault;
@@ -112,7 +112,7 @@ pub fn script_of<'a>(alloc: Global, text: &'a [u8]) -> Script<'a>
 
 /// The line of a text that has this number, from 1 on, without what ends it; `None` where there is none.
 pub fn line_at<'a>(text: &'a [u8], number: usize) -> Option<&'a [u8]>
-    ensures { option_map (λ line. line.now) result ≡ line_of text.now number }
+    ensures { option_map (λ line. line.now) result ≡ numbered_line text.now number }
 {
     if number == 0 {
         None

@@ -3,7 +3,7 @@
 ghost use Rattle.std.specs.Prelude.{IfErr, IfOk, OnOk};
 ghost use Rattle.std.specs.List.{AllByRecursion, AllZip};
 ghost use Rattle.lfs_texts.specs.Lines.{IsLineFault};
-ghost use Rattle.lfs_texts.specs.Script.{HasItsWords, IsFirstFault, IsFirstSilent, IsSaid, SaysLine, TakesStep, asking_lines};
+ghost use Rattle.lfs_texts.specs.Script.{HasItsWords, IsFirstFault, IsFirstSilent, IsLineSaid, SaysLine, TakesStep, asking_lines};
 ghost use Rattle.lfs_texts.specs.Steps.{Keeps};
 
 use crate::line_fault::LineFault;
@@ -40,7 +40,7 @@ fn lines_said<'a>(
     keep: Option<u32>,
 ) -> Result<Vec<ScriptLine<'a>>, ScriptFault>
     requires { AllByRecursion HasItsWords lines.now }
-    ensures said { IfOk result (λ said. AllZip IsSaid lines.now said.items) }
+    ensures said { IfOk result (λ said. AllZip IsLineSaid lines.now said.items) }
     ensures keep { IfOk result (λ said. AllByRecursion (λ line. Keeps keep line.step) said.items) }
     ensures refused { IfErr result (IsFirstSilent lines.now) }
 {

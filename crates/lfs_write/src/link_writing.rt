@@ -3,7 +3,7 @@
 ghost use Rattle.std.specs.Prelude.{◌≡◌, ◌<◌, [], ◌∷◌, false, true, replicate, length, IfOk, OnOk};
 ghost use Rattle.std.specs.List.{AllByRecursion};
 ghost use Rattle.lfs_block.specs.Change.{IsRising};
-ghost use Rattle.lfs_pair.specs.Appending.{IsChanged};
+ghost use Rattle.lfs_pair.specs.Appending.{IsPairRewritten};
 ghost use Rattle.lfs_pair.specs.DifferenceSeen.{forced_seen};
 ghost use Rattle.lfs_pair.specs.Writing.{IsRewritten, stored_part};
 ghost use Rattle.lfs_fs.specs.Sound.{AreAttributes};
@@ -69,7 +69,7 @@ fn changed<B: Blocks>(
     forced: Forced<'_>,
 ) -> Result<(u32, Vec<u8>), AllocError>
     requires { FitsPair (B.disk image.now) part.now }
-    ensures { IfOk result (λ new. IsChanged (B.disk image.now) part.now.0 (forced_seen forced.entry) part.now.1 new.0 new.1.items) }
+    ensures { IfOk result (λ new. IsPairRewritten (B.disk image.now) part.now.0 (forced_seen forced.entry) part.now.1 new.0 new.1.items) }
 {
     change_pair(
         alloc,

@@ -7,7 +7,7 @@ use Rattle.lfs_host.specs.Files.{Files}
 use Rattle.lfs_host.specs.Scene.{Scene}
 use Rattle.lfs_serve.specs.Program.{EndsRequest}
 use Rattle.lfs_serve.specs.Requests.{FilesDenote, IsServedOn, RequestsLeadOn, Served}
-use Rattle.lfsed.specs.Way.{Asked, AskedGoes, IsAskedOn, IsTornIn, Run, RunsLeadOn, asked_named, asked_words}
+use Rattle.lfsed.specs.Way.{TakenRequest, AskedGoes, IsAskedOn, IsTornIn, ProgramRun, RunsLeadOn, asked_named, asked_words}
 use Rattle.lfsed.specs.Words.{AreStated, EndsError, EndsExplained, EndsForMemory, EndsUsedWrongly, EndsNamed, EndsPrinting, EndsWords}
 
 -- ---- what asks for nothing changes no file
@@ -38,28 +38,28 @@ looked_stays named old looked stated (mid, first, then) = then.0.0.0 ∙ first.0
 -- ---- where one run leads
 
 -- what a request, if there is one, leads to
-abbrev Goes : ℕ → ℕ → Option Asked → History → History → Type 0
+abbrev Goes : ℕ → ℕ → Option TakenRequest → History → History → Type 0
 Goes size status asked old new = MatchOption asked (new ≡ old) (λ it. AskedGoes size status it old new)
 
-abbrev GoesOrTears : ℕ → List ℕ → Run → Files → Files → Option Asked → History → Type 0
+abbrev GoesOrTears : ℕ → List ℕ → ProgramRun → Files → Files → Option TakenRequest → History → Type 0
 GoesOrTears size name r old mid asked h =
     IsTornIn name r old mid ⊎ ((next : History) × Goes size r.status asked h next × FilesDenote size name mid next)
 
 -- the files before a run and behind it
-record OnFiles (r : Run) (old mid : Files) : Type 0 where
+record OnFiles (r : ProgramRun) (old mid : Files) : Type 0 where
   before : r.old.files ≡ Some old
   behind : r.new.files ≡ Some mid
 
 -- one that changes no file
-stays : (size : ℕ) (name : List ℕ) (r : Run) (old mid : Files) (h : History) → FilesDenote size name old h → OnFiles r old mid
+stays : (size : ℕ) (name : List ℕ) (r : ProgramRun) (old mid : Files) (h : History) → FilesDenote size name old h → OnFiles r old mid
     → r.new.files ≡ r.old.files → GoesOrTears size name r old mid None h
 stays size name r old mid h denotes on same =
     let is : mid ≡ old = same_Some mid old (sym on.behind ∙ same ∙ on.before) in
     inr (h, refl, subst (λ (f : Files). FilesDenote size name f h) (sym is) denotes)
 
 -- one that ended as a request
-goes_asked : RequestsLeadOn → (size : ℕ) (name : List ℕ) (r : Run) (old mid : Files) (h : History) → FilesDenote size name old h
-    → OnFiles r old mid → (asked : Asked) → IsAskedOn size name asked
+goes_asked : RequestsLeadOn → (size : ℕ) (name : List ℕ) (r : ProgramRun) (old mid : Files) (h : History) → FilesDenote size name old h
+    → OnFiles r old mid → (asked : TakenRequest) → IsAskedOn size name asked
     → asked.looked.files ≡ r.old.files → EndsRequest asked.request asked.looked r.new r.status
     → GoesOrTears size name r old mid (Some asked) h
 goes_asked law size name r old mid h denotes on asked is same ends =
@@ -84,7 +84,7 @@ goes_asked law size name r old mid h denotes on asked is same ends =
     ]
 
 -- one whose words name a command
-goes_named : RequestsLeadOn → (size : ℕ) (name : List ℕ) (r : Run) (old mid : Files) (h : History) → FilesDenote size name old h
+goes_named : RequestsLeadOn → (size : ℕ) (name : List ℕ) (r : ProgramRun) (old mid : Files) (h : History) → FilesDenote size name old h
     → OnFiles r old mid → (named : Option (Text × List Row)) (ends : EndsNamed named r.old r.new r.status)
     → IfSome (asked_named named r.old r.new r.status ends) (IsAskedOn size name)
     → GoesOrTears size name r old mid (asked_named named r.old r.new r.status ends) h
@@ -101,7 +101,7 @@ goes_named law size name r old mid h denotes on named (inr (inr (inl memory))) i
 goes_named law size name r old mid h denotes on named (inr (inr (inr (flash, looks, (fault, finds, told))))) is =
     stays size name r old mid h denotes on finds.0.0
 
-goes_words : RequestsLeadOn → (size : ℕ) (name : List ℕ) (r : Run) (old mid : Files) (h : History) → FilesDenote size name old h
+goes_words : RequestsLeadOn → (size : ℕ) (name : List ℕ) (r : ProgramRun) (old mid : Files) (h : History) → FilesDenote size name old h
     → OnFiles r old mid → (ends : EndsWords r.words r.old r.new r.status)
     → IfSome (asked_words r.words r.old r.new r.status ends) (IsAskedOn size name)
     → GoesOrTears size name r old mid (asked_words r.words r.old r.new r.status ends) h

@@ -31,7 +31,7 @@ use Rattle.lfsed.specs.Words.{EndsNamed, EndsWords}
 -- ---- runs
 
 -- a run: its words, what was known of the host before and behind it, and the status that it ended with, as its words end
-pub record Run : Type 0 where
+pub record ProgramRun : Type 0 where
   pub words : List Text
   pub old : Scene
   pub new : Scene
@@ -39,60 +39,60 @@ pub record Run : Type 0 where
   pub ends : EndsWords words old new status
 
 -- a request, and what was known of the host when it was taken up
-pub record Asked : Type 0 where
+pub record TakenRequest : Type 0 where
   pub request : Request
   pub looked : Scene
 
 -- the request as which a command that is named ended, if it did
-abbrev pub asked_named : (named : Option (Text × List Row)) (old new : Scene) (status : ℕ) → EndsNamed named old new status → Option Asked
+abbrev pub asked_named : (named : Option (Text × List Row)) (old new : Scene) (status : ℕ) → EndsNamed named old new status → Option TakenRequest
 asked_named named old new status (inr (inl (stated, looked, are, inl (request, asks, ends)))) =
     Some (record { request = request; looked = looked })
 asked_named named old new status _ = None
 
 -- the request as which words ended, if they did
-abbrev pub asked_words : (words : List Text) (old new : Scene) (status : ℕ) → EndsWords words old new status → Option Asked
+abbrev pub asked_words : (words : List Text) (old new : Scene) (status : ℕ) → EndsWords words old new status → Option TakenRequest
 asked_words words old new status (inl (read, is_read, named)) = asked_named _ old new status named
 asked_words words old new status _ = None
 
 -- the request as which a run ended, if it did
-abbrev pub asked_of : Run → Option Asked
+abbrev pub asked_of : ProgramRun → Option TakenRequest
 asked_of r = asked_words r.words r.old r.new r.status r.ends
 
 -- a request is on the image of this name, with blocks of this size
-abbrev pub IsAskedOn : ℕ → List ℕ → Asked → Type 0
+abbrev pub IsAskedOn : ℕ → List ℕ → TakenRequest → Type 0
 IsAskedOn size name asked = (asked.request.size ≡ size) × (asked.request.image.now ≡ name)
 
 -- a run on files that are known; if it ended as a request, then as one on that image
-pub record IsRunOn (size : ℕ) (name : List ℕ) (r : Run) (old new : Files) : Type 0 where
+pub record IsRunOn (size : ℕ) (name : List ℕ) (r : ProgramRun) (old new : Files) : Type 0 where
   pub before : r.old.files ≡ Some old
   pub behind : r.new.files ≡ Some new
   pub on : IfSome (asked_of r) (IsAskedOn size name)
 
 -- one after another, each on the files that the one before left
-abbrev pub AreRunsOn : ℕ → List ℕ → List Run → Files → Files → Type 0
+abbrev pub AreRunsOn : ℕ → List ℕ → List ProgramRun → Files → Files → Type 0
 AreRunsOn size name [] old new = new ≡ old
 AreRunsOn size name (r ∷ rs) old new = (mid : Files) × IsRunOn size name r old mid × AreRunsOn size name rs mid new
 
 -- ---- where they lead
 
 -- a request leads there, by the fault that the status tells
-abbrev pub AskedGoes : ℕ → ℕ → Asked → History → History → Type 0
+abbrev pub AskedGoes : ℕ → ℕ → TakenRequest → History → History → Type 0
 AskedGoes size status asked old new =
     (fault : Option Fault) × (status ≡ status_of fault) × TaskGoesBy fault size asked.request.task asked.looked old new
 
 -- so does a run that ended as a request; any other leaves the history
-abbrev pub RunGoes : ℕ → Run → History → History → Type 0
+abbrev pub RunGoes : ℕ → ProgramRun → History → History → Type 0
 RunGoes size r old new = MatchOption (asked_of r) (new ≡ old) (λ asked. AskedGoes size r.status asked old new)
 
 -- the host refused the new image its place, where the new journal had got its own: the image is the one that was there
-pub record IsTornIn (name : List ℕ) (r : Run) (old new : Files) : Type 0 where
+pub record IsTornIn (name : List ℕ) (r : ProgramRun) (old new : Files) : Type 0 where
   pub status : r.status ≡ 4
   pub place : WasRefused r.new.has_refused_place
   pub image : new name ≡ old name
 
 -- from a history that the files denote each run leads to the one that they denote behind it, up to one where the host tore image and
 -- journal apart
-abbrev pub RunsLead : ℕ → List ℕ → List Run → Files → Files → History → Type 0
+abbrev pub RunsLead : ℕ → List ℕ → List ProgramRun → Files → Files → History → Type 0
 RunsLead size name [] old last h = FilesDenote size name last h
 RunsLead size name (r ∷ rs) old last h =
     (mid : Files) × (r.new.files ≡ Some mid)
@@ -101,5 +101,5 @@ RunsLead size name (r ∷ rs) old last h =
 
 -- The headline: so do all lists of runs, whatever their words are.
 abbrev pub RunsLeadOn : Type 0
-RunsLeadOn = (size : ℕ) (name : List ℕ) (rs : List Run) (old last : Files) (h : History) → FilesDenote size name old h
+RunsLeadOn = (size : ℕ) (name : List ℕ) (rs : List ProgramRun) (old last : Files) (h : History) → FilesDenote size name old h
     → AreRunsOn size name rs old last → RunsLead size name rs old last h

@@ -32,8 +32,8 @@ ended_with (Ok status) = status
 ended_with (Err fault) = status_of (Some fault)
 
 -- the words are neither taken as they are nor with `--` before the first stray one
-abbrev pub IsRefused : List Text → Type 0
-IsRefused words = (read : List Text) → IsRead words read → ⊥
+abbrev pub AreWordsRefused : List Text → Type 0
+AreWordsRefused words = (read : List Text) → IsRead words read → ⊥
 
 -- an error is no error: the words call for help, or for the version
 abbrev pub CallsForHelp : ErrorKind → Type 0
@@ -97,7 +97,7 @@ EndsNamed named old new status =
 -- how refused words end: as an error of one of the kinds that the grammar finds with them
 abbrev pub EndsRefused : List Text → Scene → Scene → ℕ → Type 0
 EndsRefused words old new status =
-    IsRefused words × ((kind : ErrorKind) × IsAmong kind (fault_of grammar words) × EndsError kind old new status)
+    AreWordsRefused words × ((kind : ErrorKind) × IsAmong kind (fault_of grammar words) × EndsError kind old new status)
 
 -- how a command line ends: as its words are read; refused; or for want of memory
 abbrev pub EndsWords : List Text → Scene → Scene → ℕ → Type 0

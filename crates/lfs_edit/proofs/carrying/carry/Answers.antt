@@ -5,7 +5,7 @@ use Rattle.lfs_fs.specs.Table.{IsTableOf}
 use Rattle.lfs_fs.specs.Volume.{Volume}
 use Rattle.lfs_command.specs.AskedFor.{named_command}
 use Rattle.lfs_command.specs.Clean.{clean}
-use Rattle.lfs_edit.specs.Carried.{IsCarriedOut, IsJudged}
+use Rattle.lfs_edit.specs.Carried.{IsCarriedOnOutline, IsJudged}
 use Rattle.lfs_edit.proofs.CarryingLemmas.{carried_out}
 use Rattle.lfs_edit.proofs.JudgedLemmas.{judged_on, names_rise}
 use Rattle.lfs_edit.proofs.TableLemmas.{table_behind}
@@ -49,7 +49,7 @@ returns-clause-carried c v is =
     let command = named_command c.args.command.now in
     let carried = c.in_ok-carried.carried in
     let judged : IsJudged v command c.args.outline.now = record { is = is; names = c.requires.names; unrefused = c.in_ok-judge.ensures.unrefused } in
-    subst (IsCarriedOut v command carried.blocks.items carried.gone.items) (sym c.settle.ensures.outline)
+    subst (IsCarriedOnOutline v command carried.blocks.items carried.gone.items) (sym c.settle.ensures.outline)
     (carried_out c.carrying_laws.ensures v command c.carry_judged.new.used carried.blocks.items carried.gone.items c.args.outline.now
     c.carry_judged.new.outline is.outline (c.in_ok-carried.ensures.cut v judged) c.in_ok-carried.ensures.gone)
 

@@ -12,8 +12,8 @@ use Rattle.lfs_fs.specs.Listed.{Listed, path_after, rows_after, rows_listed}
 use Rattle.lfs_listing.specs.Below.{names}
 use Rattle.lfs_extract.specs.PathBelow.{host_name}
 use Rattle.lfs_host.specs.NewFolder.{Made, Makes}
-use Rattle.lfs_extract.specs.Extracted.{made_as}
-use Rattle.lfs_extract.specs.RowsBelow.{IsFront}
+use Rattle.lfs_extract.specs.Extracted.{made_node}
+use Rattle.lfs_extract.specs.RowsBelow.{IsSharedFront}
 use Rattle.lfs_extract.proofs.FrontLemmas.{left_after}
 use Rattle.lfs_extract.proofs.MakingLemmas.{AreLeft, all_left, has_blocks, has_texts, last_text, named_at, none_left, not_below, one_more, passed, root_left, some_left}
 use Rattle.lfs_extract.proofs.extracting.make_rows.Goals as goal
@@ -42,7 +42,7 @@ loop-row-preserved-then-not-is_below g c =
     let q : Path = c.loop-row.invariant.0 in
     let x : Listed = c.in-Some.row in
     let p : Path = path_after q x.depth x.entry.name in
-    let front : IsFront at p c.behind-front.result = c.behind-front.ensures q c.loop-row.invariant.1.front in
+    let front : IsSharedFront at p c.behind-front.result = c.behind-front.ensures q c.loop-row.invariant.1.front in
     let none : below at p ≡ None = not_below at p (c.if-not-is_below.ensures p front) in (
       p,
       record {
@@ -60,7 +60,7 @@ follow_rest-requires g c =
     let x : Listed = c.in-Some.row in
     let p : Path = path_after q x.depth x.entry.name in
     let left : Path = map (λ (n : Bor Name). n.now) c.loop-row.rest.items in
-    let front : IsFront at p c.behind-front.result = c.behind-front.ensures q c.loop-row.invariant.1.front in
+    let front : IsSharedFront at p c.behind-front.result = c.behind-front.ensures q c.loop-row.invariant.1.front in
     let there : is_some (below at p) ≡ true = sym (c.if-not-is_below.ensures p front) in
     let inside : below at p ≡ Some (path_after left (length p - length at) x.entry.name) =
     left_after at q left x.depth x.entry.name c.loop-row.invariant.1.rest there in
@@ -88,7 +88,7 @@ loop-row-preserved g c =
     let p : Path = path_after q x.depth x.entry.name in
     let left : Path = map (λ (n : Bor Name). n.now) c.loop-row.rest.items in
     let rest : Path = map (λ (n : Bor Name). n.now) c.follow_rest.new.rest.items in
-    let front : IsFront at p c.behind-front.result = c.behind-front.ensures q c.loop-row.invariant.1.front in
+    let front : IsSharedFront at p c.behind-front.result = c.behind-front.ensures q c.loop-row.invariant.1.front in
     let there : is_some (below at p) ≡ true = sym (c.if-not-is_below.ensures p front) in
     let goes : rest ≡ path_after left c.more.result x.entry.name =
     subst (λ (y : Listed). rest ≡ path_after left c.more.result y.entry.name) c.row.view_is c.in_ok-follow_rest.ensures in
@@ -97,8 +97,8 @@ loop-row-preserved g c =
     ∙ ap (λ (i : ℕ). Some (path_after left i x.entry.name)) (sym (c.more.ensures p front)) ∙ ap (λ (r : Path). Some r) (sym goes) in
     let named = named_at dir c.as_str.result.now (string_bytes c.in_ok-name.name) c.deref.result.now c.follow_rest.new.rest.items rest
     c.as_str.ensures.value c.in_ok-name.ensures c.deref.ensures.value refl in
-    let made : Makes mid new (made_as (host_name dir rest) (shown_node d x.entry) ∷ []) =
-    subst (λ (n : List ℕ). Makes mid new (made_as n (shown_node d x.entry) ∷ [])) named c.in_ok-make_row.ensures.made in (
+    let made : Makes mid new (made_node (host_name dir rest) (shown_node d x.entry) ∷ []) =
+    subst (λ (n : List ℕ). Makes mid new (made_node n (shown_node d x.entry) ∷ [])) named c.in_ok-make_row.ensures.made in (
       p,
       record {
         front = front;

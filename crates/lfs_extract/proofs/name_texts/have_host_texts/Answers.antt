@@ -4,7 +4,7 @@ use Rattle.lfs_fs.specs.Listed.{Listed, path_after, rows_after, rows_listed}
 use Rattle.lfs_fs.specs.Path.{Path}
 use Rattle.lfs_listing.specs.Below.{names}
 use Rattle.lfs_extract.specs.Extracted.{IsHostText}
-use Rattle.lfs_extract.specs.RowsBelow.{IsDeeper, IsFront, rows_below}
+use Rattle.lfs_extract.specs.RowsBelow.{IsDeeper, IsSharedFront, rows_below}
 use Rattle.lfs_extract.proofs.NameLemmas.{IsJudgedOn, judged_none, judged_more, judged_other, judged_all}
 use Rattle.lfs_extract.proofs.name_texts.have_host_texts.Goals as goal
 
@@ -23,7 +23,7 @@ returns-then-has_other_name c =
     let at : Path = names c.args.at.now in
     let q : Path = c.loop-row.invariant.0 in
     let x : Listed = c.in-Some.row in
-    let front : IsFront at (path_after q x.depth x.entry.name) c.behind-front.result = c.behind-front.ensures q c.loop-row.invariant.1 in
+    let front : IsSharedFront at (path_after q x.depth x.entry.name) c.behind-front.result = c.behind-front.ensures q c.loop-row.invariant.1 in
     let found = subst (λ (y : Listed). IsDeeper at (path_after q x.depth x.entry.name) × ¬ IsHostText y.entry.name) c.row.view_is
     (c.if-has_other_name.ensures (path_after q x.depth x.entry.name) front) in
     judged_other at q c.loop-row.row-iterator c.next.new.self x (rows_below at (rows_listed c.args.rows)) c.loop-row.invariant.2
@@ -34,7 +34,7 @@ loop-row-preserved c =
     let at : Path = names c.args.at.now in
     let q : Path = c.loop-row.invariant.0 in
     let x : Listed = c.in-Some.row in
-    let front : IsFront at (path_after q x.depth x.entry.name) c.behind-front.result = c.behind-front.ensures q c.loop-row.invariant.1 in
+    let front : IsSharedFront at (path_after q x.depth x.entry.name) c.behind-front.result = c.behind-front.ensures q c.loop-row.invariant.1 in
     let text = subst (λ (y : Listed). IsDeeper at (path_after q x.depth x.entry.name) → IsHostText y.entry.name) c.row.view_is
     (c.if-has_other_name.ensures (path_after q x.depth x.entry.name) front) in (
       path_after q x.depth x.entry.name,

@@ -1,11 +1,11 @@
--- The commands are those of the table.
+-- The program_commands are those of the table.
 use Rattle.std.proofs.Common.{◌≡◌, ◌∙◌, Bor, ap, codes, fold, true}
 use Rattle.std.specs.Prelude.{Result, Ok, Err, IfOk, Some}
 use Rattle.clap.specs.Simple.{app_of_fields, on_top}
 use Rattle.clap.specs.Words.{App, Text, app_of, new_app, with_subcommand}
 use Rattle.clap.specs.declared.builder.command.Command.{Command}
 use Rattle.clap.specs.declared.builder.command.Command.TheViews.{out-Command as fields_of}
-use Rattle.lfs_grammar.specs.Grammar.{commands, grammar, program}
+use Rattle.lfs_grammar.specs.Grammar.{program_commands, grammar, program}
 use Rattle.lfs_grammar.proofs.grammar.command_line.Goals as goal
 
 -- what the calls on the program leave of its grammar
@@ -26,9 +26,9 @@ asked : (r s : Command) → fields_of r ≡ record (fields_of s) { subcommand_re
     → app_of r ≡ on_top (λ top. record top { subcommand_required = true }) (app_of s)
 asked r s is = ap app_of_fields is
 
-made_of : {E : Type 0} (r : Result Command E) (start : App) → IfOk r (λ made. app_of made ≡ fold with_subcommand start commands)
+made_of : {E : Type 0} (r : Result Command E) (start : App) → IfOk r (λ made. app_of made ≡ fold with_subcommand start program_commands)
     → start ≡ program → IfOk r (λ made. app_of made ≡ grammar)
-made_of (Ok made) start is begins = is ∙ ap (λ (a : App). fold with_subcommand a commands) begins
+made_of (Ok made) start is begins = is ∙ ap (λ (a : App). fold with_subcommand a program_commands) begins
 made_of (Err e) start is begins = tt
 
 pub returns : goal.returns

@@ -1,12 +1,12 @@
 use Rattle.std.proofs.Common.{rules, ◌≡◌, ◌∷◌, None, ◌++◌, ◌∙◌, ℕ, List, ap, sym, arith}
 use Rattle.std.proofs.lemmas.Str.Pattern.{strip_prefix_char}
-use Rattle.lfs_host.specs.MemoryTree.{below}
+use Rattle.lfs_host.specs.MemoryTree.{name_behind}
 use Rattle.lfs_host.proofs.MemoryTreeLemmas.{below_cut, not_below}
 use Rattle.lfs_host.proofs.memory_tree.below.Goals as goal
 
 pub returns-in_err-strip_prefix : goal.returns-in_err-strip_prefix
 returns-in_err-strip_prefix c =
-    let none : below c.args.folder.now c.args.file.now ≡ None =
+    let none : name_behind c.args.folder.now c.args.file.now ≡ None =
     not_below c.args.folder.now c.args.file.now (λ rest is. c.in_err-strip_prefix.ensures.cases (47 ∷ rest) is) in
     rw none (search rules)
 

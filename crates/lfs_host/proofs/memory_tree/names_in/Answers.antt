@@ -11,7 +11,7 @@ use Rattle.std.proofs.lemmas.Map.Iter.{iter_end}
 use Rattle.std.proofs.lemmas.Result.{IfOk-weaker}
 use Rattle.std.proofs.lemmas.Simd.{map-map}
 use Rattle.lfs_host.specs.HostTree.{AreNamesIn}
-use Rattle.lfs_host.specs.MemoryTree.{name_through, names_of, names_through}
+use Rattle.lfs_host.specs.MemoryTree.{name_through, file_names_of, names_through}
 use Rattle.lfs_host.proofs.MemoryTreeLemmas.{gathered, none_more, some_more}
 use Rattle.lfs_host.proofs.memory_tree.names_in.Goals as goal
 
@@ -44,10 +44,10 @@ returns c =
     let files = c.args.files.now in
     let folder = c.args.folder.now in
     let complete : map deref c.loop-file.yielded ≡ keys files = search (rules, iter_end) in
-    let texts : map text c.loop-file.yielded ≡ names_of files =
+    let texts : map text c.loop-file.yielded ≡ file_names_of files =
     sym (map-map (λ k. string_bytes k) deref c.loop-file.yielded) ∙ ap (λ (ks : List (String Global)). map (λ k. string_bytes k) ks) complete in
     let names = c.loop-file.names in
-    let there : List (List ℕ) = names_through folder (names_of files) in
+    let there : List (List ℕ) = names_through folder (file_names_of files) in
     let has : (q : List ℕ) → contains_text names q ≡ list_any (bytes_eq q) there = λ q. c.loop-file.invariant.has q
     ∙ ap (λ (files : List (List ℕ)). list_any (bytes_eq q) (names_through folder files)) texts in
     IfOk-weaker c.collect.result (λ listed. listed.items ≡ names.keys) (λ listed. AreNamesIn there (map (λ n. string_bytes n) listed.items))

@@ -1,6 +1,6 @@
 use Rattle.std.proofs.Common.{◌<◌, ◌≤◌, ◌∙◌, arith, flat_map, length, sym}
 use Rattle.lfs_listing.specs.BlockMap.{runs_from}
-use Rattle.lfs_listing.specs.Using.{part_of, run_line}
+use Rattle.lfs_listing.specs.Using.{part_of_user, run_line}
 use Rattle.lfs_listing.proofs.BufferLemmas.{front_goes}
 use Rattle.lfs_listing.proofs.RunLemmas.{goes_within, on_more, run_waits, runs_done}
 use Rattle.lfs_listing.proofs.UnsentLemmas.{refused, failed, same_error, ends}
@@ -15,7 +15,7 @@ returns-in_err-send_if_full-clause-sent g c =
     let parts = c.args.parts.now in
     let off = sym c.goes_on.ensures ∙ c.if-goes_on.false in
     let h = run_waits c.args.form (g.S.Sink.sent c.args.out.now) (g.S.Sink.sent c.loop-block.out) c.loop-block.text.items c.append_line.new.text.items
-    (flat_map (run_line c.args.form (part_of c.args.form parts)) (runs_from 0 us)) (part_of c.args.form parts) us c.loop-block.first c.loop-block.block c.of_user.result.now
+    (flat_map (run_line c.args.form (part_of_user c.args.form parts)) (runs_from 0 us)) (part_of_user c.args.form parts) us c.loop-block.first c.loop-block.block c.of_user.result.now
     c.loop-block.invariant.under_way c.loop-block.invariant.before c.loop-block-test.true c.loop-block.invariant.on off
     c.of_user.ensures c.in_ok-append_line.ensures in
     failed c.from_residual-in_err-send_if_full.result _ _ _ _ _ _
@@ -40,7 +40,7 @@ loop-block-preserved g c =
     let parts = c.args.parts.now in
     let off = sym c.goes_on.ensures ∙ c.if-goes_on.false in
     let h = run_waits c.args.form (g.S.Sink.sent c.args.out.now) (g.S.Sink.sent c.loop-block.out) c.loop-block.text.items c.append_line.new.text.items
-    (flat_map (run_line c.args.form (part_of c.args.form parts)) (runs_from 0 us)) (part_of c.args.form parts) us c.loop-block.first c.loop-block.block c.of_user.result.now
+    (flat_map (run_line c.args.form (part_of_user c.args.form parts)) (runs_from 0 us)) (part_of_user c.args.form parts) us c.loop-block.first c.loop-block.block c.of_user.result.now
     c.loop-block.invariant.under_way c.loop-block.invariant.before c.loop-block-test.true c.loop-block.invariant.on off
     c.of_user.ensures c.in_ok-append_line.ensures in
     record {
@@ -57,4 +57,4 @@ returns-clause-sent g c =
     let more' : c.loop-block.first < c.loop-block.block → c.loop-block.block < length c.args.users.now = c.loop-block.invariant.more in
     let over : length c.args.users.now ≤ c.loop-block.first = grind (arith, more', c.loop-block.invariant.before, c.loop-block-test.false) in
     ends c.send_rest.result _ _ _ _ _
-    (runs_done c.args.form _ _ _ _ (part_of c.args.form c.args.parts.now) c.args.users.now c.loop-block.first over c.loop-block.invariant.under_way) c.send_rest.ensures.sent
+    (runs_done c.args.form _ _ _ _ (part_of_user c.args.form c.args.parts.now) c.args.users.now c.loop-block.first over c.loop-block.invariant.under_way) c.send_rest.ensures.sent

@@ -2,7 +2,7 @@
 use Rattle.std.proofs.Common.{◌≡◌, ◌++◌, ◌∙◌, List, Option, ℕ, Some, ap, flat_map, fold, subst}
 use Rattle.lfs_fs.specs.declared.outline_directory.OutlineParts.{OutlineParts}
 use Rattle.lfs_fs.specs.Directory.{Directory, Part}
-use Rattle.lfs_listing.specs.BlockMap.{directory_blocks, part_blocks}
+use Rattle.lfs_listing.specs.BlockMap.{blocks_of_directory, blocks_of_part}
 use Rattle.lfs_listing.specs.Using.{give}
 use Rattle.lfs_listing.proofs.using.give_directory.Goals as goal
 
@@ -10,7 +10,7 @@ pub returns : goal.returns
 returns c =
     let old : List (Option ℕ) = c.args.users.now in
     let give' : List (Option ℕ) → ℕ → List (Option ℕ) = give c.args.number in
-    subst (λ (d : Directory). c.give_parts.new.users ≡ fold give' old (directory_blocks (Some d))) c.directory.view_is
-    (c.give_parts.ensures ∙ ap (λ (us : List (Option ℕ)). fold give' us (flat_map part_blocks c.deref-3.result.now)) (c.give_part.ensures ∙ ap (λ (ps : OutlineParts). fold give' old (part_blocks ps.first)) c.deref.ensures)
-    ∙ ap (λ (ps : List Part). fold give' old (part_blocks c.directory.inside.parts.value.first ++ flat_map part_blocks ps))
+    subst (λ (d : Directory). c.give_parts.new.users ≡ fold give' old (blocks_of_directory (Some d))) c.directory.view_is
+    (c.give_parts.ensures ∙ ap (λ (us : List (Option ℕ)). fold give' us (flat_map blocks_of_part c.deref-3.result.now)) (c.give_part.ensures ∙ ap (λ (ps : OutlineParts). fold give' old (blocks_of_part ps.first)) c.deref.ensures)
+    ∙ ap (λ (ps : List Part). fold give' old (blocks_of_part c.directory.inside.parts.value.first ++ flat_map blocks_of_part ps))
     (c.deref-3.ensures.value ∙ ap (λ (ps : OutlineParts). ps.more.items) c.deref-2.ensures))

@@ -8,7 +8,7 @@ use Rattle.lfs_fs.specs.Gathering.{PairPart}
 use Rattle.lfs_fs.specs.Reading.{reading_of}
 use Rattle.lfs_fs.specs.Used.{AddsBlocks, AreTaken}
 use Rattle.lfs_fs.proofs.ThreadReadLemmas.{pair_within}
-use Rattle.lfs_lower.specs.Joining.{IsGathered}
+use Rattle.lfs_lower.specs.Joining.{AreGathered}
 use Rattle.lfs_lower.proofs.GatheredParts.{gathered_all, gathered_more, gathered_none, gathered_taken, gathered_unread, marked_by, refused_by}
 use Rattle.lfs_lower.proofs.superblocks.superblock_parts.Goals as goal
 
@@ -24,7 +24,7 @@ returns-then-is_err-clause-parts g c =
     let refused = refused_by c.mark_all.result (λ fault. AreTaken fault c.walk.table (c.in-Some.pair.0 ∷ c.in-Some.pair.1 ∷ []))
     (sym c.is_err.ensures.value ∙ c.if-is_err.true) c.mark_all.ensures.refused in
     gathered_taken r c.walk.table c.walk.parts.items c.in-Some.pair refused.0
-    (subst (λ (o : Option Pair). IsGathered r c.walk.table c.walk.parts.items o) c.in-Some.is c.walk.invariant) refused.1
+    (subst (λ (o : Option Pair). AreGathered r c.walk.table c.walk.parts.items o) c.in-Some.is c.walk.invariant) refused.1
 
 pub part_at-requires-clause-first : goal.part_at-requires-clause-first
 part_at-requires-clause-first g c =
@@ -44,7 +44,7 @@ pub returns-in_default-2-clause-parts : goal.returns-in_default-2-clause-parts
 returns-in_default-2-clause-parts g c =
     let r = reading_of (g.B.Blocks.disk c.args.blocks.now) in
     gathered_unread r c.walk.table c.walk.parts.items c.in-Some.pair
-    (subst (λ (o : Option Pair). IsGathered r c.walk.table c.walk.parts.items o) c.in-Some.is c.walk.invariant)
+    (subst (λ (o : Option Pair). AreGathered r c.walk.table c.walk.parts.items o) c.in-Some.is c.walk.invariant)
     (subst (λ (o : Option PairPart). IfNone o (r.part c.in-Some.pair ≡ None)) c.in_default-2.is c.in_ok-part.ensures.none)
 
 pub walk-preserved : goal.walk-preserved
@@ -60,7 +60,7 @@ walk-preserved g c =
     let marked = marked_by c.mark_all.result (AddsBlocks c.walk.table c.mark_all.new.used (pair.0 ∷ pair.1 ∷ []))
     (sym c.is_err.ensures.value ∙ c.if-is_err.false) c.mark_all.ensures.marked in
     let more = gathered_more r c.walk.table c.walk.parts.items pair c.mark_all.new.used part.1
-    (subst (λ (o : Option Pair). IsGathered r c.walk.table c.walk.parts.items o) c.in-Some.is c.walk.invariant) marked found complete in
+    (subst (λ (o : Option Pair). AreGathered r c.walk.table c.walk.parts.items o) c.in-Some.is c.walk.invariant) marked found complete in
     let one : (pair, part.1) ≡ part = ap (λ (p : Pair). (p, part.1)) (sym at) in
     rw (c.lead-next.ensures, c.in_ok-push.ensures.items, ← one) more
 
@@ -68,4 +68,4 @@ pub returns-clause-parts : goal.returns-clause-parts
 returns-clause-parts g c =
     let r = reading_of (g.B.Blocks.disk c.args.blocks.now) in
     gathered_all r c.walk.table c.walk.parts.items
-    (subst (λ (o : Option Pair). IsGathered r c.walk.table c.walk.parts.items o) c.in_default.is c.walk.invariant)
+    (subst (λ (o : Option Pair). AreGathered r c.walk.table c.walk.parts.items o) c.in_default.is c.walk.invariant)

@@ -2,10 +2,10 @@
 use Rattle.std.proofs.Common.{[], subst, sym}
 use Rattle.lfs_fs.specs.Formatted.{empty_volume}
 use Rattle.lfs_fs.specs.Sound.{IsSound}
-use Rattle.lfs_pack.specs.Unwritten.{IsUnwritten}
+use Rattle.lfs_pack.specs.Unwritten.{IsReadyToWrite}
 use Rattle.lfs_pack.proofs.beginning.new_image.Goals as goal
 
-begun : (c : goal.After-outline-2-1) → IsUnwritten c.in_ok-image.image.disk (empty_volume c.args.size c.args.count c.args.limits [])
+begun : (c : goal.After-outline-2-1) → IsReadyToWrite c.in_ok-image.image.disk (empty_volume c.args.size c.args.count c.args.limits [])
 begun c =
     c.unwritten_images_go_on.ensures.begin c.args.size c.args.count c.in_ok-image.image.disk c.args.limits c.in_ok-image.ensures
     c.requires.limits

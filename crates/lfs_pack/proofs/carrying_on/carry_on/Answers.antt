@@ -2,7 +2,7 @@
 use Rattle.std.proofs.Common.{◌<◌, ℕ, List, All, inl, inr, refl, sym, subst}
 use Rattle.std.proofs.lemmas.Result.{err_from_is_err_and}
 use Rattle.lfs_command.specs.AskedFor.{named_command}
-use Rattle.lfs_edit.specs.Carried.{IsCarriedOut}
+use Rattle.lfs_edit.specs.Carried.{IsCarriedOnOutline}
 use Rattle.lfs_pack.proofs.CarriedOn.{at_work_on, back_inside, contents_first, does_on, outlined_at, put_short, taken_enough, taken_in_order, taken_inside}
 use Rattle.lfs_pack.proofs.carrying_on.carry_on.Goals as goal
 
@@ -28,7 +28,7 @@ lay_for-requires-clause-rising c =
     let carried = c.in_ok-carried.carried in
     let command = named_command c.args.command.now in
     taken_in_order c.args.new.now v command c.deref.result.now carried.gone.items c.carry.new.outline at c.requires.row
-    (subst (λ (bs : List ℕ). IsCarriedOut v command bs carried.gone.items c.carry.new.outline) (sym c.deref.ensures.value)
+    (subst (λ (bs : List ℕ). IsCarriedOnOutline v command bs carried.gone.items c.carry.new.outline) (sym c.deref.ensures.value)
     (c.in_ok-carried.ensures.carried v (outlined_at c.args.new.now v at)))
 
 pub lay_for-requires-clause-below : goal.lay_for-requires-clause-below
@@ -38,7 +38,7 @@ lay_for-requires-clause-below c =
     let carried = c.in_ok-carried.carried in
     let command = named_command c.args.command.now in
     taken_inside c.args.new.now v command c.deref.result.now carried.gone.items c.carry.new.outline at c.requires.row
-    (subst (λ (bs : List ℕ). IsCarriedOut v command bs carried.gone.items c.carry.new.outline) (sym c.deref.ensures.value)
+    (subst (λ (bs : List ℕ). IsCarriedOnOutline v command bs carried.gone.items c.carry.new.outline) (sym c.deref.ensures.value)
     (c.in_ok-carried.ensures.carried v (outlined_at c.args.new.now v at)))
 
 pub lay_for-requires-clause-enough : goal.lay_for-requires-clause-enough
@@ -48,7 +48,7 @@ lay_for-requires-clause-enough c =
     let carried = c.in_ok-carried.carried in
     let command = named_command c.args.command.now in
     taken_enough c.args.new.now v command c.deref.result.now carried.gone.items c.carry.new.outline at c.requires.row
-    (subst (λ (bs : List ℕ). IsCarriedOut v command bs carried.gone.items c.carry.new.outline) (sym c.deref.ensures.value)
+    (subst (λ (bs : List ℕ). IsCarriedOnOutline v command bs carried.gone.items c.carry.new.outline) (sym c.deref.ensures.value)
     (c.in_ok-carried.ensures.carried v (outlined_at c.args.new.now v at)))
 
 pub lay_for-requires-clause-len : goal.lay_for-requires-clause-len

@@ -1,7 +1,7 @@
 -- The file of an entry is made where it is saved.
 use Rattle.std.proofs.Common.{◌≡◌, ◌∙◌, false, List, ℕ, Option, Some, None, ap, subst}
 use Rattle.lfs_block.specs.Disk.{Disk}
-use Rattle.lfs_extract.specs.Making.{contents_of}
+use Rattle.lfs_extract.specs.Making.{held_bytes}
 use Rattle.lfs_extract.proofs.MakingLemmas.{makes_nothing}
 use Rattle.lfs_extract.specs.PathBelow.{name_in}
 use Rattle.lfs_fs.specs.RowHeld.{row_body_held}
@@ -21,7 +21,7 @@ pub returns-clause-made : goal.returns-clause-made
 returns-clause-made g c =
     let d : Disk = g.B.Blocks.disk c.args.disk.now in
     let above : List ℕ = c.args.above.now in
-    let bytes : List ℕ = contents_of d (row_body_held c.in-Some.row) in
+    let bytes : List ℕ = held_bytes d (row_body_held c.in-Some.row) in
     let made = c.make_named.ensures.made in
     let named : c.deref.result.now ≡ c.args.entry.now.name =
     c.deref.ensures.value ∙ ap (λ (e : StoredEntry). e.name) c.entry.view_is in

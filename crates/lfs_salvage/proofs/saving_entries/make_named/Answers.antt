@@ -1,7 +1,7 @@
 -- A file is made, or the host refuses it.
 use Rattle.std.proofs.Common.{◌∙◌, false, List, ℕ, Option, subst, sym}
 use Rattle.std.proofs.lemmas.Result.{err_from_is_err_and}
-use Rattle.lfs_extract.specs.Making.{contents_of}
+use Rattle.lfs_extract.specs.Making.{held_bytes}
 use Rattle.lfs_extract.specs.PathBelow.{name_in}
 use Rattle.lfs_fs.specs.RowHeld.{row_body_held}
 use Rattle.lfs_host.specs.NewFolder.{FileMade, Made}
@@ -18,7 +18,7 @@ returns-in_err-name-clause-made g c =
       false,
       nothing_stops c.in_err-name.field-0.0 (g.F.Known.known c.args.folder.now).made
           (g.F.Known.known c.begin_file.new.folder).made
-          (FileMade name (contents_of (g.B.Blocks.disk c.args.disk.now) (row_body_held c.args.body.now))) c.in_err-name.ensures.other
+          (FileMade name (held_bytes (g.B.Blocks.disk c.args.disk.now) (row_body_held c.args.body.now))) c.in_err-name.ensures.other
           c.in_err-name.ensures.made,
     )
 
@@ -30,7 +30,7 @@ returns-in_err-write_file-clause-made g c =
     rw (p.1, p.2) (
       named.0,
       none_front (g.F.Known.known c.args.folder.now).made (g.F.Known.known c.write_file.new.folder).made
-          (FileMade name (contents_of (g.B.Blocks.disk c.args.disk.now) (row_body_held c.args.body.now)))
+          (FileMade name (held_bytes (g.B.Blocks.disk c.args.disk.now) (row_body_held c.args.body.now)))
           (c.in_err-write_file.ensures.made ∙ c.in_ok-name.ensures.made),
     )
 
@@ -42,5 +42,5 @@ returns-clause-below g c = λ top above.
     subst (IsNameBelow top) (sym c.as_str.ensures.value) (c.in_ok-name.ensures.named top above) in
     subst (λ (x : Option (List Made)). MakesBelow top x new) c.in_ok-name.ensures.made
     (one_below top mid new
-    (FileMade c.as_str.result.now (contents_of (g.B.Blocks.disk c.args.disk.now) (row_body_held c.args.body.now))) is
+    (FileMade c.as_str.result.now (held_bytes (g.B.Blocks.disk c.args.disk.now) (row_body_held c.args.body.now))) is
     c.in_ok-write_file.ensures.made)

@@ -5,7 +5,7 @@ use Rattle.std.proofs.lemmas.Result.{err_from_is_err_and}
 use Rattle.lfs_block.specs.Disk.{Disk}
 use Rattle.lfs_host.specs.NewFolder.{Made}
 use Rattle.lfs_meta.specs.Entry.{StoredEntry}
-use Rattle.lfs_salvage.specs.AreaMade.{entry_made, entry_uses, parent_of}
+use Rattle.lfs_salvage.specs.AreaMade.{entry_made, uses_by_entry, call_parent}
 use Rattle.lfs_salvage.specs.Fate.{fate}
 use Rattle.lfs_salvage.specs.Unsaved.{unsaved}
 use Rattle.lfs_salvage.specs.declared.block_use.BlockUse.{BlockUse}
@@ -38,7 +38,7 @@ returns-in_err-save_entry-clause-made g c =
     let e : StoredEntry = c.index-entries-index.result in
     let i : ℕ = c.each.index in
     let uses : List BlockUse = c.each.salvage.uses.items in
-    let parent : Parent = parent_of c.args.area c.args.call i in
+    let parent : Parent = call_parent c.args.area c.args.call i in
     let before : List Unsaved = c.args.salvage.now.unsaved.items in
     let told : List Unsaved = c.each.salvage.unsaved.items in
     let left : List Bool → Plan = entries_plan d above block uses c.args.area c.args.call i (drop i es) in
@@ -46,7 +46,7 @@ returns-in_err-save_entry-clause-made g c =
     let made = c.in_err-save_entry.ensures.made in
     let p = err_from_is_err_and c.from_residual.result c.from_residual.ensures.1 in
     rw (p.1, p.2) (doing_stops old mid before told left complete c.each.invariant.doing made.0 (entry_made d above made.0 block i uses e)
-    (unsaved parent (fate d uses e)) (entries_plan d above block (entry_uses d uses parent e) c.args.area c.args.call (i + 1) (drop (i + 1) es))
+    (unsaved parent (fate d uses e)) (entries_plan d above block (uses_by_entry d uses parent e) c.args.area c.args.call (i + 1) (drop (i + 1) es))
     (λ rest. entries_more d above block uses c.args.area c.args.call i es e made.0 rest c.each-test.true c.index-entries-index.is) new
     c.in_err-save_entry.field-0.0 made.1)
 
@@ -67,7 +67,7 @@ each-preserved g c =
     let e : StoredEntry = c.index-entries-index.result in
     let i : ℕ = c.each.index in
     let uses : List BlockUse = c.each.salvage.uses.items in
-    let parent : Parent = parent_of c.args.area c.args.call i in
+    let parent : Parent = call_parent c.args.area c.args.call i in
     let before : List Unsaved = c.args.salvage.now.unsaved.items in
     let told : List Unsaved = c.each.salvage.unsaved.items in
     let left : List Bool → Plan = entries_plan d above block uses c.args.area c.args.call i (drop i es) in
@@ -76,12 +76,12 @@ each-preserved g c =
     let next : List BlockUse → List Bool → Plan = λ (t : List BlockUse).
     entries_plan d above block t c.args.area c.args.call (i + 1) (drop (i + 1) es) in
     let made = c.in_ok-save_entry.ensures.made in
-    let done : IsDoing old new before more (next (entry_uses d uses parent e)) complete =
+    let done : IsDoing old new before more (next (uses_by_entry d uses parent e)) complete =
     doing_more old mid before told left complete c.each.invariant.doing made.0 (entry_made d above made.0 block i uses e)
-    (unsaved parent (fate d uses e)) (next (entry_uses d uses parent e))
+    (unsaved parent (fate d uses e)) (next (uses_by_entry d uses parent e))
     (λ rest. entries_more d above block uses c.args.area c.args.call i es e made.0 rest c.each-test.true c.index-entries-index.is) new more
     made.1 c.in_ok-save_entry.ensures.unsaved in
-    let used : c.save_entry.new.salvage.uses.items ≡ entry_uses d uses parent e = c.in_ok-save_entry.ensures.uses in
+    let used : c.save_entry.new.salvage.uses.items ≡ uses_by_entry d uses parent e = c.in_ok-save_entry.ensures.uses in
     record {
       doing = subst (λ (t : List BlockUse). IsDoing old new before more (next t) complete) (sym used) done;
       below = λ top above'. below_then top old mid new (c.each.invariant.below top above') (c.save_entry.ensures.below top above');

@@ -3,7 +3,7 @@ use Rattle.std.proofs.Common.{◌≡◌, ◌⊎◌, inl, refl}
 use Rattle.std.proofs.lemmas.Result.{IfOk-from_err, err_from_is_err_and}
 use Rattle.lfs_command.specs.declared.refusal.Refusal.TheVariants.{Memory}
 use Rattle.lfs_request.specs.declared.fault.Fault.TheVariants.{Refused}
-use Rattle.lfs_serve.specs.Opened.{RefusesMount}
+use Rattle.lfs_serve.specs.Opened.{RefusesMounting}
 use Rattle.lfs_serve.proofs.StepLemmas.{stopped_as, told_as}
 use Rattle.lfs_serve.proofs.OpenedLemmas.{image_fits}
 use Rattle.lfs_serve.proofs.opened.opened_on.Goals as goal
@@ -23,7 +23,7 @@ pub returns-in_err-source_rows-clause-refused : goal.returns-in_err-source_rows-
 returns-in_err-source_rows-clause-refused c =
     let on = c.from_residual-in_err-source_rows in
     let p = err_from_is_err_and on.result on.ensures.1 in
-    told_as on.result (λ fault. (fault ≡ Refused Memory) ⊎ RefusesMount c.args.image.now.disk fault) (Refused Memory) p.0 p.1 p.2 (inl refl)
+    told_as on.result (λ fault. (fault ≡ Refused Memory) ⊎ RefusesMounting c.args.image.now.disk fault) (Refused Memory) p.0 p.1 p.2 (inl refl)
 
 pub overflow_mul-result : goal.overflow_mul-result
 overflow_mul-result c = image_fits c.args.image.now.disk c.size.result c.count.result c.size.ensures.disk c.size.ensures.value c.count.ensures

@@ -8,7 +8,7 @@ use Rattle.lfs_history.proofs.MoveLemmas.{TakeBack}
 use Rattle.lfs_session.specs.Opened.{RefusesMounts}
 use Rattle.lfs_session.proofs.PlaceLemmas.{IsAt}
 use Rattle.lfs_session.proofs.RoomLemmas.{each_at, room_same}
-use Rattle.lfs_step.specs.Between.{images_at, later_at}
+use Rattle.lfs_step.specs.Between.{images_at, images_behind}
 use Rattle.lfs_step.proofs.BetweenLemmas.{is_here, back_agrees, goes_back}
 use Rattle.lfs_step.proofs.TellingLemmas.{tells_first, tells_back, first_image_refused}
 use Rattle.lfs_step.proofs.telling.+tell_all.Goals as goal
@@ -25,7 +25,7 @@ pub returns-then-at-eq0-clause-refused : goal.returns-then-at-eq0-clause-refused
 returns-then-at-eq0-clause-refused t c =
     let d = c.args.image.now.disk in
     let ps = c.args.course.now.patches.now in
-    IfErr-weaker c.tell_on.result (λ fault. RefusesMounts fault (later_at d ps 0)) (λ fault. RefusesMounts fault (images_at d ps c.args.at))
+    IfErr-weaker c.tell_on.result (λ fault. RefusesMounts fault (images_behind d ps 0)) (λ fault. RefusesMounts fault (images_at d ps c.args.at))
     (λ fault h. first_image_refused fault d ps c.args.at c.if-at-eq0.true h) c.tell_on.ensures.refused
 
 pub revert-requires : goal.revert-requires

@@ -11,7 +11,7 @@ use Rattle.lfs_session.specs.Opened.{RefusesMount, RefusesMounts}
 use Rattle.lfs_session.proofs.PlaceLemmas.{IsAt}
 use Rattle.lfs_session.proofs.RoomLemmas.{each_at, room_same}
 use Rattle.lfs_listing.specs.Difference.{difference}
-use Rattle.lfs_step.specs.Between.{later_at}
+use Rattle.lfs_step.specs.Between.{images_behind}
 use Rattle.lfs_step.specs.Log.{change_line}
 use Rattle.lfs_step.proofs.BetweenLemmas.{is_here, on_agrees, goes_on, lies_over}
 use Rattle.lfs_step.proofs.TellingLemmas.{tells_none, tells_next, next_refused, behind_refused}
@@ -150,5 +150,5 @@ returns-clause-refused t c =
     let law : Make = record { disk = made.disk; agrees = back.agrees; back = back.back } in
     let to = goes_on law d c.apply.new.image.disk ps i (i + 1) p at c.requires.between c.apply.ensures.applied in
     let e = c.apply.new.image.disk in
-    IfErr-weaker c.tell_on-told.result (λ fault. RefusesMounts fault (later_at e ps (i + 1))) (λ fault. RefusesMounts fault (later_at d ps i))
+    IfErr-weaker c.tell_on-told.result (λ fault. RefusesMounts fault (images_behind e ps (i + 1))) (λ fault. RefusesMounts fault (images_behind d ps i))
     (λ fault h. behind_refused fault d e ps i (i + 1) to.later h) c.tell_on-told.ensures.refused

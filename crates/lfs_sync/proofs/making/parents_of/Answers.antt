@@ -5,7 +5,7 @@ use Rattle.lfs_meta.specs.Name.{Name}
 use Rattle.lfs_fs.specs.Path.{Path}
 use Rattle.lfs_fs.specs.Tree.{tree}
 use Rattle.lfs_command.specs.Command.{Mkdir}
-use Rattle.lfs_sync.specs.Merging.{Adds, if_so}
+use Rattle.lfs_sync.specs.Merging.{PlansBehind, if_so}
 use Rattle.lfs_sync.specs.Planned.{in_texts, plan_asked}
 use Rattle.lfs_listing.specs.Below.{names}
 use Rattle.lfs_sync.specs.Synced.{lacking}
@@ -21,7 +21,7 @@ fronts-preserved c rows =
     sym (take-map (λ (n : Bor Name). n.now) c.fronts.length c.args.path.now) in
     parent_further t ns rows c.fronts.plan.items c.plan_parent.new.plan.items c.fronts.length c.fronts.auto.length
     (omega (arith, names_long c.args.path.now)) (c.fronts.invariant rows)
-    (subst (λ (p : Path). Adds rows c.fronts.plan.items c.plan_parent.new.plan.items (if_so (not (is_some (t p))) (Mkdir p))) front
+    (subst (λ (p : Path). PlansBehind rows c.fronts.plan.items c.plan_parent.new.plan.items (if_so (not (is_some (t p))) (Mkdir p))) front
     (c.in_ok-plan_parent.ensures rows))
 
 pub returns : goal.returns

@@ -2,7 +2,7 @@
 use Rattle.std.proofs.Common.{List, ℕ, subst, sym}
 use Rattle.std.specs.List.{AllByRecursion, AllZip}
 use Rattle.std.proofs.lemmas.Result.{err_from_is_err_and}
-use Rattle.lfs_texts.specs.Script.{AreSplit, HasItsWords, IsFirstFault, IsFirstSilent, IsSaid, SaysLine, asking_lines}
+use Rattle.lfs_texts.specs.Script.{AreSplit, HasItsWords, IsFirstFault, IsFirstSilent, IsLineSaid, SaysLine, asking_lines}
 use Rattle.lfs_texts.specs.declared.line_words.LineWords.{LineWords}
 use Rattle.lfs_texts.proofs.SaidLemmas.{all_said, silent_is_first, split_words, wordless_is_first}
 use Rattle.lfs_texts.proofs.script_steps.script_lines.Goals as goal
@@ -27,7 +27,7 @@ returns-in-Some-clause-refused c =
     let fault = c.in-Some.fault in
     let said = c.in_ok-said.said.items in
     let split = subst (AreSplit script.text.now script.lines.items) c.in-Some.is c.script.invariant in
-    let says = subst (λ (ls : List LineWords). AllZip IsSaid ls said) c.deref.ensures.value c.in_ok-said.ensures.said in
+    let says = subst (λ (ls : List LineWords). AllZip IsLineSaid ls said) c.deref.ensures.value c.in_ok-said.ensures.said in
     subst (λ (text : List ℕ). IsFirstFault text fault) c.script.view_is (wordless_is_first script.text.now script.lines.items said fault split says)
 
 pub returns-clause-lines : goal.returns-clause-lines
@@ -35,6 +35,6 @@ returns-clause-lines c =
     let script = c.script.inside in
     let said = c.in_ok-said.said.items in
     let split = subst (AreSplit script.text.now script.lines.items) c.in-None.is c.script.invariant in
-    let says = subst (λ (ls : List LineWords). AllZip IsSaid ls said) c.deref.ensures.value c.in_ok-said.ensures.said in
+    let says = subst (λ (ls : List LineWords). AllZip IsLineSaid ls said) c.deref.ensures.value c.in_ok-said.ensures.said in
     subst (λ (text : List ℕ). AllZip SaysLine (asking_lines text) said) c.script.view_is
     (all_said script.text.now script.lines.items said split says)

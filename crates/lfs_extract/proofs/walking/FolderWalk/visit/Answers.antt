@@ -4,7 +4,7 @@ use Rattle.std.proofs.lemmas.Result.{on_ok_weaker, IfErr-weaker}
 use Rattle.lfs_extract.specs.declared.walking.TheConstants.{MOST_BYTES}
 use Rattle.lfs_host.specs.HostTree.{HostTree, IsKind, ReadsEntry}
 use Rattle.lfs_extract.specs.FolderRows.{BlamesHost, RefusesFolderRows, most_rows}
-use Rattle.lfs_extract.specs.FolderWalk.{Enters, IsHostBlamed, RefusesFolder}
+use Rattle.lfs_extract.specs.FolderWalk.{EntersFolder, IsHostBlamed, RefusesFolder}
 use Rattle.lfs_extract.proofs.WalkStepLemmas.{step_file, step_folder, walk_blamed, walk_missing, walk_other, walk_refused, walk_too_long}
 use Rattle.lfs_extract.proofs.walking.FolderWalk.visit.Goals as goal
 
@@ -15,7 +15,7 @@ returns-in-Folder-clause-walking g c =
     let more = map (λ s. string_bytes s) (reverse c.enter.new.self.waiting.items) in
     let dir = c.args.dir.now in
     let name = c.args.name.now in
-    let enters : Option HostTree → Type 0 = λ (k : Option HostTree). Enters k (length dir) name c.args.self.now.rows.items
+    let enters : Option HostTree → Type 0 = λ (k : Option HostTree). EntersFolder k (length dir) name c.args.self.now.rows.items
     c.enter.new.self.rows.items waiting more in
     on_ok_weaker c.enter.result (λ (entered : enters (g.H.Known.known c.kind.new.self).tree). step_folder MOST_BYTES known dir name
     c.args.self.now.rows.items c.enter.new.self.rows.items waiting more c.requires (subst enters c.kind.ensures.kept.1 entered))
