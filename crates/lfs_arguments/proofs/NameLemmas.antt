@@ -10,14 +10,14 @@ use Rattle.lfs_grammar.specs.Grammar.{NamesCommand, TakesNoImage, program_comman
 use Rattle.lfs_arguments.specs.Words.{IsNoPast, IsNoTreeCommand, is_command, is_flagged, is_of_tree, is_other, is_question}
 
 -- a command that isn't asked, and changes no tree
-abbrev is_task : Text → Bool
-is_task name =
+abbrev is_operation : Text → Bool
+is_operation name =
     bytes_eq (codes "batch") name || (bytes_eq (codes "format") name || (bytes_eq (codes "pack") name || (bytes_eq (codes "repack") name
     || (bytes_eq (codes "extract") name || (bytes_eq (codes "salvage") name || (bytes_eq (codes "undo") name
     || (bytes_eq (codes "redo") name || bytes_eq (codes "forget") name)))))))
 
 abbrev is_known : Text → Bool
-is_known name = is_task name || (is_question name || is_other name)
+is_known name = is_operation name || (is_question name || is_other name)
 
 all_known : Each (λ (c : Shape). is_known c.name ≡ true) program_commands
 all_known = search rules
@@ -56,13 +56,13 @@ no_command name tree setattr rmattr grow =
 pub other_named : (name : Text) (rows : List Row) → NamesCommand (Some (name, rows)) → IsNoPast name → name ≢ codes "format"
     → name ≢ codes "pack" → name ≢ codes "repack" → is_other name ≡ true
 other_named name rows names past format pack repack =
-    let task : is_task name ≡ false =
+    let operation : is_operation name ≡ false =
     none_by _ _ (no_word (codes "batch") name past.3) (none_by _ _ (no_word (codes "format") name format)
     (none_by _ _ (no_word (codes "pack") name pack) (none_by _ _ (no_word (codes "repack") name repack)
     (none_by _ _ (no_word (codes "extract") name past.4.0) (none_by _ _ (no_word (codes "salvage") name past.4.1)
     (none_by _ _ (no_word (codes "undo") name past.0) (none_by _ _ (no_word (codes "redo") name past.1)
     (no_word (codes "forget") name past.2)))))))) in
-    other_by (is_question name) (is_other name) (other_by (is_task name) (is_question name || is_other name) (known name rows names) task) past.4.2
+    other_by (is_question name) (is_other name) (other_by (is_operation name) (is_question name || is_other name) (known name rows names) operation) past.4.2
 
 first_by : (a b : Bool) → a || b ≡ true → b ≡ false → a ≡ true
 first_by true b is none = refl

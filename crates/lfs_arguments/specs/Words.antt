@@ -22,9 +22,9 @@ use Rattle.lfs_request.specs.declared.request.Request.{Request}
 use Rattle.lfs_request.specs.declared.said_limits.SaidLimits.{SaidLimits}
 use Rattle.lfs_request.specs.declared.source_image.SourceImage.{SourceImage}
 use Rattle.lfs_request.specs.declared.view.View.{View}
-use Rattle.lfs_request.specs.declared.task.Task.{Task}
-use Rattle.lfs_request.specs.declared.task.Task.TheVariants as task
-use Rattle.lfs_request.specs.declared.task.Task.TheVariants.{Format, Pack, Repack, Extract, Salvage, Ask, Change, Tree, Batch}
+use Rattle.lfs_request.specs.declared.operation.Operation.{Operation}
+use Rattle.lfs_request.specs.declared.operation.Operation.TheVariants as operation
+use Rattle.lfs_request.specs.declared.operation.Operation.TheVariants.{Format, Pack, Repack, Extract, Salvage, Ask, Change, Tree, Batch}
 use Rattle.lfs_request.specs.declared.tree_change.TreeChange.{TreeChange}
 use Rattle.lfs_request.specs.declared.tree_change.TreeChange.TheVariants as tree
 use Rattle.lfs_json.specs.declared.form.Form.{Form}
@@ -205,33 +205,33 @@ IsQuery Log name rows other = name ≡ codes "log"
 abbrev pub form_said : List Row → Form
 form_said rows = if is_flagged (codes "json") rows then form.Json else form.Text
 
--- the task that a name and its options ask for on an image of this block size, where another image has blocks of the second one
-abbrev pub IsTask : Task → Text → List Row → ℕ → ℕ → Type 0
-IsTask (Format count limits) name rows block other = (name ≡ codes "format") × SaysCount rows block count × SaysNewLimits rows limits
-IsTask (Pack extent limits dir) name rows block other =
+-- the operation that a name and its options ask for on an image of this block size, where another image has blocks of the second one
+abbrev pub IsOperation : Operation → Text → List Row → ℕ → ℕ → Type 0
+IsOperation (Format count limits) name rows block other = (name ≡ codes "format") × SaysCount rows block count × SaysNewLimits rows limits
+IsOperation (Pack extent limits dir) name rows block other =
     (name ≡ codes "pack") × SaysExtent rows block extent × SaysNewLimits rows limits × HasText rows (codes "dir") dir.now
-IsTask (Repack source extent limits) name rows block other =
+IsOperation (Repack source extent limits) name rows block other =
     (name ≡ codes "repack") × IsSource source rows other × SaysExtentIfSaid rows block extent × SaysLimitsIfSaid rows limits
-IsTask (Extract dir path view) name rows block other =
+IsOperation (Extract dir path view) name rows block other =
     (name ≡ codes "extract") × HasText rows (codes "dir") dir.now × HasPathOrRoot rows path.now × IsView view rows
-IsTask (Salvage dir view) name rows block other = (name ≡ codes "salvage") × HasText rows (codes "dir") dir.now × IsView view rows
-IsTask (Ask query said view) name rows block other = IsQuery query name rows other × (said ≡ form_said rows) × IsView view rows
-IsTask task.Forget name rows block other = name ≡ codes "forget"
-IsTask (Change (Do command kept)) name rows block other =
+IsOperation (Salvage dir view) name rows block other = (name ≡ codes "salvage") × HasText rows (codes "dir") dir.now × IsView view rows
+IsOperation (Ask query said view) name rows block other = IsQuery query name rows other × (said ≡ form_said rows) × IsView view rows
+IsOperation operation.Forget name rows block other = name ≡ codes "forget"
+IsOperation (Change (Do command kept)) name rows block other =
     (is_of_tree name rows ≡ false) × IsCommand command name rows block × IsKeepSaid kept rows
-IsTask (Tree change kept) name rows block other = (is_of_tree name rows ≡ true) × IsTreeChange change name rows × IsKeepSaid kept rows
-IsTask (Change (Undo steps)) name rows block other = (name ≡ codes "undo") × HasNumber rows (codes "steps") steps
-IsTask (Change (Redo steps)) name rows block other = (name ≡ codes "redo") × HasNumber rows (codes "steps") steps
-IsTask (Change move.Forget) name rows block other = ⊥
-IsTask (Change (Together commands kept)) name rows block other = ⊥
-IsTask (Batch file kept one) name rows block other =
+IsOperation (Tree change kept) name rows block other = (is_of_tree name rows ≡ true) × IsTreeChange change name rows × IsKeepSaid kept rows
+IsOperation (Change (Undo steps)) name rows block other = (name ≡ codes "undo") × HasNumber rows (codes "steps") steps
+IsOperation (Change (Redo steps)) name rows block other = (name ≡ codes "redo") × HasNumber rows (codes "steps") steps
+IsOperation (Change move.Forget) name rows block other = ⊥
+IsOperation (Change (Together commands kept)) name rows block other = ⊥
+IsOperation (Batch file kept one) name rows block other =
     (name ≡ codes "batch") × (option_map (λ f. f.now) file ≡ first_of (codes "script") rows) × IsKeepSaid kept rows
     × (one ≡ is_flagged (codes "one") rows)
 
 -- the request that a command and its options ask for, where `auto` stands for these block sizes
 abbrev pub IsRequest : Request → Text → List Row → AutoSizes → Type 0
 IsRequest request name rows stated =
-    ((other : ℕ) × HasOtherBlock rows stated.other other × IsTask request.task name rows request.size other)
+    ((other : ℕ) × HasOtherBlock rows stated.other other × IsOperation request.operation name rows request.size other)
     × HasBlock rows (codes "block") stated.image request.size
     × HasText rows (codes "image") request.image.now
     × (request.is_new ≡ is_flagged (codes "new") rows)

@@ -5,9 +5,9 @@ mod auto_file;
 mod auto_sizes;
 mod counting;
 mod matching;
+mod operations;
 mod options;
 mod spelling;
-mod tasks;
 mod usage_error;
 mod viewing;
 

@@ -3,7 +3,7 @@
 ghost use Rattle.std.specs.Prelude.{◌≡◌, ◌⊎◌, IfErr, IfOk, IfSome, IsNone, Some, codes};
 ghost use Rattle.clap.specs.Words.{Text, found_of, rows_of, subcommand_rows_of};
 ghost use Rattle.lfs_grammar.specs.Grammar.{NamesCommand, TakesNoImage};
-ghost use Rattle.lfs_request.specs.Task.{IsTaskInRange};
+ghost use Rattle.lfs_request.specs.Operation.{IsOperationInRange};
 ghost use Rattle.lfs_arguments.specs.Words.{AsksFor, BeginsAt, Explains, IsMissaid, IsUsageError, IsRequest};
 ghost use Rattle.lfs_arguments.specs.Words.{LooksIn, NamesExplain, NamesFind, NamesNoImage, SaysAuto, SaysAutoImage, SaysAutoOther, SaysAutoSource};
 ghost use Rattle.lfs_arguments.specs.declared.usage_error.UsageError.TheVariants.{Memory, Unsaid};
@@ -11,8 +11,8 @@ ghost use Rattle.lfs_arguments.specs.declared.usage_error.UsageError.TheVariants
 use crate::auto_file::AutoFile;
 use crate::auto_sizes::AutoSizes;
 use crate::counting::{block_of, other_block_of};
+use crate::operations::operation_of;
 use crate::options::{said, text};
-use crate::tasks::task_of;
 use crate::usage_error::UsageError;
 use crate::viewing::place_said;
 use clap::ArgMatches;
@@ -27,7 +27,7 @@ fn request_of<'a>(
     stated: AutoSizes,
 ) -> Result<Request<'a>, UsageError<'a>>
     ensures some { IfOk result (λ request. IsRequest request name.now (rows_of (found_of options.now)) stated) }
-    ensures within { IfOk result (λ request. NamesCommand (Some (name.now, rows_of (found_of options.now))) → IsTaskInRange request.task) }
+    ensures within { IfOk result (λ request. NamesCommand (Some (name.now, rows_of (found_of options.now))) → IsOperationInRange request.operation) }
     ensures refused { IfErr result (λ usage_error. (usage_error ≡ Unsaid) ⊎ (usage_error ≡ Memory) ⊎ IsUsageError usage_error name.now (rows_of (found_of options.now)) stated) }
     ensures unsaid { IfErr result (λ usage_error. usage_error ≡ Unsaid → NamesCommand (Some (name.now, rows_of (found_of options.now)))
         → TakesNoImage name.now) }
@@ -35,7 +35,7 @@ fn request_of<'a>(
     let size = block_of(options, stated.image)?;
     let other = other_block_of(options, stated.other)?;
     Ok(Request {
-        task: task_of(alloc, name, options, size, other)?,
+        operation: operation_of(alloc, name, options, size, other)?,
         size,
         is_new: said(options, "new"),
         takes_older: said(options, "older"),
@@ -52,7 +52,7 @@ pub fn request_said<'a>(
     stated: AutoSizes,
 ) -> Result<Request<'a>, UsageError<'a>>
     ensures some { IfOk result (λ request. AsksFor (subcommand_rows_of matches.now) stated request) }
-    ensures within { IfOk result (λ request. NamesCommand (subcommand_rows_of matches.now) → IsTaskInRange request.task) }
+    ensures within { IfOk result (λ request. NamesCommand (subcommand_rows_of matches.now) → IsOperationInRange request.operation) }
     ensures refused { IfErr result (λ usage_error. (usage_error ≡ Unsaid) ⊎ (usage_error ≡ Memory) ⊎ IsMissaid (subcommand_rows_of matches.now) stated usage_error) }
     ensures unsaid { IfErr result (λ usage_error. usage_error ≡ Unsaid → NamesCommand (subcommand_rows_of matches.now)
         → NamesNoImage (subcommand_rows_of matches.now)) }

@@ -52,45 +52,45 @@ fn tells(alloc: Global, plan: &[Planned], rows: &[SyncRow<'_>], expected: &[u8])
 }
 
 #[derive(Clone, Copy)]
-enum Task {
+enum Operation {
     Remove,
     Make,
     Put,
 }
 
 // what is done at a path, and the commands that it takes
-const ROWS: [(Task, &[u8], &[u8]); 7] = [
-    (Task::Remove, b"/d", b"rm /d/f \nrm /d \n"),
-    (Task::Remove, b"/", b"rm / \n"),
-    (Task::Remove, b"/u", b"rm /u \n"),
-    (Task::Remove, b"u", b"rm u \n"),
-    (Task::Make, b"/d/x/y", b"mkdir /d/x \nmkdir /d/x/y \n"),
-    (Task::Make, b"/d", b""),
-    (Task::Put, b"/u/v", b"mkdir /u \nput /u/v z\n"),
+const ROWS: [(Operation, &[u8], &[u8]); 7] = [
+    (Operation::Remove, b"/d", b"rm /d/f \nrm /d \n"),
+    (Operation::Remove, b"/", b"rm / \n"),
+    (Operation::Remove, b"/u", b"rm /u \n"),
+    (Operation::Remove, b"u", b"rm u \n"),
+    (Operation::Make, b"/d/x/y", b"mkdir /d/x \nmkdir /d/x/y \n"),
+    (Operation::Make, b"/d", b""),
+    (Operation::Put, b"/u/v", b"mkdir /u \nput /u/v z\n"),
 ];
 
-// the plan of a task
+// the plan of an operation
 fn plan_of(
     alloc: Global,
     mounted: &Mounted,
-    task: Task,
+    operation: Operation,
     at: &[u8],
 ) -> Result<Vec<Planned>, AllocError> {
-    match task {
-        Task::Remove => remove_plan(alloc, mounted, at),
-        Task::Make => make_plan(alloc, mounted, at),
-        Task::Put => put_plan(alloc, mounted, at),
+    match operation {
+        Operation::Remove => remove_plan(alloc, mounted, at),
+        Operation::Make => make_plan(alloc, mounted, at),
+        Operation::Put => put_plan(alloc, mounted, at),
     }
 }
 
 // whether a row of the table is right
-fn is_planned(alloc: Global, mounted: &Mounted, row: &(Task, &[u8], &[u8])) -> bool {
-    let (task, at, expected) = *row;
+fn is_planned(alloc: Global, mounted: &Mounted, row: &(Operation, &[u8], &[u8])) -> bool {
+    let (operation, at, expected) = *row;
     let rows = [SyncRow {
         path: at,
         bytes: Some(b"z"),
     }];
-    match plan_of(alloc, mounted, task, at) {
+    match plan_of(alloc, mounted, operation, at) {
         Ok(plan) => tells(alloc, &plan, &rows, expected),
         Err(_) => false,
     }

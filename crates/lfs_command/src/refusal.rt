@@ -7,11 +7,11 @@ use thiserror::Error;
 /// Why a new image or a change is refused.
 #[derive(Clone, Copy, Debug, PartialEq, Eq, Error)]
 pub enum Refusal {
-    /// Nothing is at the path, or at a front of it.
+    /// Nothing is at the path, or at a prefix of it.
     NotFound,
     /// Something is at the path already.
     Exists,
-    /// A file is at a front of the path.
+    /// A file is at a prefix of the path.
     NotADirectory,
     /// A directory is at the path of a file.
     IsADirectory,

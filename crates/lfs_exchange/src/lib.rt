@@ -6,9 +6,9 @@ mod handing;
 mod names;
 mod output;
 mod printing;
+mod reporting;
 mod step_kind;
 mod storing;
-mod telling;
 
 pub use handing::{
     Handed, fault_of_reading, input_of, question_of, read_contents, read_input, read_other,
@@ -17,6 +17,6 @@ pub use handing::{
 pub use names::{Names, names_of};
 pub use output::Output;
 pub use printing::{flush, print};
+pub use reporting::{MORE, report, report_of_image};
 pub use step_kind::{StepKind, kind_of_query, kind_of_steps};
 pub use storing::stored;
-pub use telling::{MORE, tell, tell_of_image};

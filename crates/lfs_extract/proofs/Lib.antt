@@ -1,4 +1,4 @@
-pub mod FrontLemmas
+pub mod PrefixLemmas
 pub mod HostNameLemmas
 pub mod MakingLemmas
 pub mod NameLemmas

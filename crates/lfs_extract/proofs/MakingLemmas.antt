@@ -17,7 +17,7 @@ use Rattle.lfs_extract.specs.PathBelow.{host_name}
 use Rattle.lfs_extract.specs.RowsBelow.{row_below, rows_below}
 use Rattle.lfs_host.specs.NewFolder.{Made, Makes}
 use Rattle.lfs_extract.specs.Extracted.{HaveTexts, IsHostText, JudgesNames, MakesFront, StayBelow, all_made, made_of}
-use Rattle.lfs_extract.proofs.FrontLemmas.{has_last}
+use Rattle.lfs_extract.proofs.PrefixLemmas.{has_last}
 use Rattle.lfs_extract.specs.declared.extract_fault.ExtractFault.{ExtractFault}
 use Rattle.lfs_extract.specs.declared.extract_fault.ExtractFault.TheVariants.{Memory, HostName, CannotWrite}
 
@@ -33,15 +33,15 @@ makes_then (Some xs) (Some ys) (Some zs) first second p q = q ∙ ap (λ l. l ++
 
 -- those in front of the rest were made
 pub record IsOnWay (old new : Option (List Made)) (rest complete : List Made) : Type 0 where
-  pub front : List Made
-  pub made : Makes old new front
-  pub all : front ++ rest ≡ complete
+  pub prefix : List Made
+  pub made : Makes old new prefix
+  pub all : prefix ++ rest ≡ complete
 
 pub on_way : (old : Option (List Made)) (complete : List Made) → IsOnWay old old complete complete
-on_way old complete = record { front = []; made = makes_nothing old; all = refl }
+on_way old complete = record { prefix = []; made = makes_nothing old; all = refl }
 
 pub all_way : (old new : Option (List Made)) (complete : List Made) → IsOnWay old new [] complete → Makes old new complete
-all_way old new complete h = subst (Makes old new) (sym (append-nil h.front) ∙ h.all) h.made
+all_way old new complete h = subst (Makes old new) (sym (append-nil h.prefix) ∙ h.all) h.made
 
 -- ---- rows
 
@@ -100,9 +100,9 @@ module _ (old mid : Option (List Made)) (d : Disk) (at : Path) (dir : List ℕ) 
         let way = way_by (Some rest) inside in
         record {
           way = record {
-            front = way.front ++ made_of d dir row ∷ [];
-            made = makes_then old mid new way.front (made_of d dir row ∷ []) way.made made;
-            all = append_assoc way.front (made_of d dir row ∷ []) (all_made d dir (rows_below at next)) ∙ way.all;
+            prefix = way.prefix ++ made_of d dir row ∷ [];
+            made = makes_then old mid new way.prefix (made_of d dir row ∷ []) way.made made;
+            all = append_assoc way.prefix (made_of d dir row ∷ []) (all_made d dir (rows_below at next)) ∙ way.all;
           };
           blocks = later_blocks;
           texts = All-tail (λ (r : Row). All IsHostText r.path) row (rows_below at next) (texts_by (Some rest) inside);
@@ -113,7 +113,7 @@ module _ (old mid : Option (List Made)) (d : Disk) (at : Path) (dir : List ℕ) 
     stopped =
         let way = way_by (Some rest) inside in
         record {
-          front = way.front;
+          prefix = way.prefix;
           next = made_of d dir row;
           rest = all_made d dir (rows_below at next);
           split = way.all;
@@ -172,4 +172,4 @@ judges_by CannotWrite rows other stay = stay
 pub judges : (result : Result (Unit {0}) ExtractFault) (old new : Option (List Made)) (complete : List Made) (rows : List Row)
     → IsMade result old new complete → StayBelow rows → JudgesNames (result_err result) rows
 judges (Ok done) old new complete rows made stay = stay
-judges (Err fault) old new complete rows (other, front) stay = judges_by fault rows other stay
+judges (Err fault) old new complete rows (other, prefix) stay = judges_by fault rows other stay

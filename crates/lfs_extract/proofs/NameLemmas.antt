@@ -15,7 +15,7 @@ use Rattle.lfs_law.proofs.PathMapLemmas.{below_some}
 use Rattle.lfs_extract.specs.HostNames.{IsHostName}
 use Rattle.lfs_extract.specs.Extracted.{IsHostText, HaveTexts, HasOtherName, StayBelow}
 use Rattle.lfs_extract.specs.RowsBelow.{IsDeeper, row_below, rows_below}
-use Rattle.lfs_extract.proofs.FrontLemmas.{has_last, rest_after}
+use Rattle.lfs_extract.proofs.PrefixLemmas.{has_last, rest_after}
 
 -- ---- names of rows, one after another
 

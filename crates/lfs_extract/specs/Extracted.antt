@@ -29,11 +29,11 @@ all_made d dir rows = map (made_of d dir) rows
 
 -- those in front of one of them were made, and no other
 pub record MakesFront (old new : Option (List Made)) (complete : List Made) : Type 0 where
-  pub front : List Made
+  pub prefix : List Made
   pub next : Made
   pub rest : List Made
-  pub split : front ++ next ∷ rest ≡ complete
-  pub made : Makes old new front
+  pub split : prefix ++ next ∷ rest ≡ complete
+  pub made : Makes old new prefix
 
 -- all of them, by what is answered; nothing where a name is refused, and else those in front of one
 abbrev pub Extracts : Option ExtractFault → Option (List Made) → Option (List Made) → List Made → Type 0

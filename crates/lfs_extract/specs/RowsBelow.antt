@@ -4,7 +4,7 @@ use Rattle.lfs_fs.specs.Entry.{Entry}
 use Rattle.lfs_fs.specs.Path.{Path}
 use Rattle.lfs_fs.specs.Row.{Row}
 use Rattle.lfs_command.specs.PathMap.{below}
-use Rattle.lfs_extract.specs.declared.front.Front.{Front}
+use Rattle.lfs_extract.specs.declared.shared_prefix.SharedPrefix.{SharedPrefix}
 
 -- what stands at or below a path, of which this is left, as a row in front of others
 abbrev pub row_below : Entry → Option Path → List Row → List Row
@@ -23,9 +23,9 @@ shared (n ∷ at) [] = 0
 shared (n ∷ at) (m ∷ path) = if bytes_eq n m then suc (shared at path) else 0
 
 -- how many names a path has, and with how many of another one's it begins
-pub record IsSharedFront (at path : Path) (front : Front) : Type 0 where
-  pub long : front.length ≡ length path
-  pub same : front.shared ≡ shared at path
+pub record IsSharedPrefix (at path : Path) (prefix : SharedPrefix) : Type 0 where
+  pub long : prefix.length ≡ length path
+  pub same : prefix.shared ≡ shared at path
 
 -- a path is below another, and not it
 abbrev pub IsDeeper : Path → Path → Type 0

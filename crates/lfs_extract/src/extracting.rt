@@ -14,10 +14,10 @@ ghost use Rattle.lfs_extract.specs.TreeMade.{AreOfTree};
 ghost use Rattle.lfs_extract.specs.declared.extract_fault.ExtractFault.TheVariants.{CannotWrite, HostName};
 
 use crate::extract_fault::ExtractFault;
-use crate::front::Front;
 use crate::host_path::{follow_rest, host_name};
 use crate::making::make_row;
 use crate::name_texts::have_host_texts;
+use crate::shared_prefix::SharedPrefix;
 use lfs_block::Blocks;
 use lfs_fs::{Mounted, Rows, outlines_are_sound, rows_show_the_tree};
 use lfs_host::NewFolder;
@@ -42,14 +42,14 @@ fn make_rows<B: Blocks, F: NewFolder>(
     ensures blamed { IfErr result (λ fault. fault ≡ CannotWrite → HasRefused (F.known folder.new)) }
     ensures kept { KeepsFiles (F.known folder.old) (F.known folder.new) }
 {
-    let mut front = Front::new();
+    let mut prefix = SharedPrefix::new();
     let mut rest = Vec::new(alloc);
     for row in rows {
-        front = front.behind(at, &row);
-        if !front.is_below(at) {
+        prefix = prefix.behind(at, &row);
+        if !prefix.is_below(at) {
             continue;
         }
-        follow_rest(&mut rest, front.more(at), row.name)?;
+        follow_rest(&mut rest, prefix.more(at), row.name)?;
         let name = host_name(alloc, dir, &rest)?;
         make_row(disk, &row, name.as_str(), folder)?;
     }

@@ -7,13 +7,13 @@ mod extracting;
 mod file_sink;
 mod folder_fault;
 mod folder_row;
-mod front;
 mod host_names;
 mod host_path;
 mod making;
 mod name_texts;
 mod path_below;
 mod reading;
+mod shared_prefix;
 mod walking;
 
 pub use extract_fault::ExtractFault;

@@ -121,11 +121,11 @@ pub trait Host: Folders + NewFolder {
         ensures kept { KeepsAll (Self.known self.old) (Self.known self.new) };
 
     /// Writes text to standard error. Nothing is told where that fails.
-    fn complain<D: Display + Drop>(&mut self, text: D)
+    fn report<D: Display + Drop>(&mut self, text: D)
         ensures kept { Self.known self.new ≡ Self.known self.old };
 
     /// Writes a line to standard error: what was refused last, the image of this name, its journal, what is below a folder,
     /// a file whose contents are put, standard input or standard output, and what the system said. Nothing where it said nothing.
-    fn complain_of(&mut self, image: &str)
+    fn report_refused(&mut self, image: &str)
         ensures kept { Self.known self.new ≡ Self.known self.old };
 }

@@ -38,7 +38,7 @@ pub struct MemoryHost {
     /// What went to standard output.
     pub printed: Vec<u8>,
     /// What went to standard error.
-    pub complained: String,
+    pub reported: String,
     /// What was made in new folders, in order.
     pub made: Vec<MadeEntry>,
     /// The bytes that were written to the file that is being made there.
@@ -72,7 +72,7 @@ impl MemoryHost {
             files: BTreeMap::new(alloc),
             typed,
             printed: Vec::new(alloc),
-            complained: String::new(alloc),
+            reported: String::new(alloc),
             made: Vec::new(alloc),
             filled: Vec::new(alloc),
             claimed: Vec::new(alloc),
@@ -365,9 +365,9 @@ impl Host for MemoryHost {
         Ok(())
     }
 
-    fn complain<D: Display + Drop>(&mut self, text: D) {
-        let _ = write!(self.complained, "{text}");
+    fn report<D: Display + Drop>(&mut self, text: D) {
+        let _ = write!(self.reported, "{text}");
     }
 
-    fn complain_of(&mut self, _image: &str) {}
+    fn report_refused(&mut self, _image: &str) {}
 }

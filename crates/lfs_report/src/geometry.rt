@@ -2,7 +2,7 @@
 
 ghost use Rattle.std.specs.Prelude.{◌≡◌};
 
-use crate::line::{Piece, say};
+use crate::line::{Piece, report_pieces};
 use lfs_block::{BLOCK_SIZE_STEP, MAX_BLOCK_COUNT, MAX_IMAGE_LENGTH};
 use lfs_host::Host;
 use lfs_json::Told;
@@ -17,7 +17,7 @@ const MOST_BLOCKS: usize = MAX_BLOCK_COUNT as usize;
 const COUNT_LIMITS: &str = "an image has 2 to 65536 blocks, this one ";
 
 /// Tells which limit of its geometry the image of this name doesn't keep, the size of whose blocks this option says.
-pub(crate) fn tell_limit<H: Host>(
+pub(crate) fn report_limit<H: Host>(
     host: &mut H,
     image: &str,
     option: &str,
@@ -27,38 +27,38 @@ pub(crate) fn tell_limit<H: Host>(
     ensures kept { H.known host.new ≡ H.known host.old }
 {
     if size % BLOCK_SIZE_STEP != 0 {
-        tell_size(host, option, size);
+        report_size(host, option, size);
     } else if let Some(count) = count {
-        tell_count(host, image, count, size);
+        report_count(host, image, count, size);
     }
 }
 
 /// Tells that no block has this size.
-fn tell_size<H: Host>(host: &mut H, option: &str, size: u32)
+fn report_size<H: Host>(host: &mut H, option: &str, size: u32)
     ensures kept { H.known host.new ≡ H.known host.old }
 {
-    host.complain(Told {
+    host.report(Told {
         of: format_args!("{option} {size}"),
         text: format_args!("a block is a multiple of {BLOCK_SIZE_STEP} bytes"),
     });
 }
 
 /// Tells which limit of the number of its blocks an image doesn't keep.
-pub(crate) fn tell_count<H: Host>(host: &mut H, image: &str, count: usize, size: u32)
+pub(crate) fn report_count<H: Host>(host: &mut H, image: &str, count: usize, size: u32)
     ensures kept { H.known host.new ≡ H.known host.old }
 {
     if (MIN_BLOCK_COUNT..=MOST_BLOCKS).contains(&count) {
-        tell_length(host, image, count, size);
+        report_length(host, image, count, size);
     } else {
-        tell_wrong_count(host, image, count, size);
+        report_wrong_count(host, image, count, size);
     }
 }
 
 /// Tells that an image of this many blocks has too many bytes.
-fn tell_length<H: Host>(host: &mut H, image: &str, count: usize, size: u32)
+fn report_length<H: Host>(host: &mut H, image: &str, count: usize, size: u32)
     ensures kept { H.known host.new ≡ H.known host.old }
 {
-    say(
+    report_pieces(
         host,
         image,
         &[
@@ -73,10 +73,10 @@ fn tell_length<H: Host>(host: &mut H, image: &str, count: usize, size: u32)
 }
 
 /// Tells that an image has no such number of blocks.
-fn tell_wrong_count<H: Host>(host: &mut H, image: &str, count: usize, size: u32)
+fn report_wrong_count<H: Host>(host: &mut H, image: &str, count: usize, size: u32)
     ensures kept { H.known host.new ≡ H.known host.old }
 {
-    say(
+    report_pieces(
         host,
         image,
         &[

@@ -1,6 +1,6 @@
 //! The words of the command line by which an image is read as a device does.
 
-use lfs_request::{Query, Request, Task};
+use lfs_request::{Operation, Query, Request};
 
 /// The disk version that is read with them, with its major number in the upper half.
 const VERSION: u32 = 0x0002_0001;
@@ -8,17 +8,20 @@ const VERSION: u32 = 0x0002_0001;
 /// The words by which an image is read as a device does: an option of the command that is asked for, or of the one that makes a new image
 /// of it; nothing where the request says so already.
 pub(crate) fn hint_of(request: &Request<'_>) -> Option<&'static str> {
-    match &request.task {
-        Task::Ask { view, .. } | Task::Extract { view, .. } | Task::Salvage { view, .. }
+    match &request.operation {
+        Operation::Ask { view, .. }
+        | Operation::Extract { view, .. }
+        | Operation::Salvage { view, .. }
             if view.by_device => None,
-        Task::Repack { source, .. } if source.manner.view.by_device => None,
-        Task::Ask {
+        Operation::Repack { source, .. } if source.manner.view.by_device => None,
+        Operation::Ask {
             query: Query::Log,
             ..
         } => Some("repack --device"),
-        Task::Ask { .. } | Task::Extract { .. } | Task::Salvage { .. } | Task::Repack { .. } => {
-            Some("--device")
-        }
+        Operation::Ask { .. }
+        | Operation::Extract { .. }
+        | Operation::Salvage { .. }
+        | Operation::Repack { .. } => { Some("--device") }
         _ => Some("repack --device"),
     }
 }

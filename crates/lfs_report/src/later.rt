@@ -2,8 +2,8 @@
 
 ghost use Rattle.std.specs.Prelude.{◌≡◌};
 
-use crate::line::say_version;
-use crate::task_paths::other_of;
+use crate::line::report_with_version;
+use crate::operation_paths::other_of;
 use lfs_host::Host;
 use lfs_request::Request;
 
@@ -17,22 +17,22 @@ pub struct Later {
 }
 
 /// Tells on standard error of commits that aren't read, where such stand in the images of a request.
-pub fn tell_later<H: Host>(host: &mut H, request: &Request<'_>, later: Later)
+pub fn report_later<H: Host>(host: &mut H, request: &Request<'_>, later: Later)
     ensures kept { H.known host.new ≡ H.known host.old }
 {
     if let Some(version) = later.image {
-        tell_version(host, request.image, version);
+        report_version(host, request.image, version);
     }
-    if let (Some(version), Some(other)) = (later.other, other_of(&request.task)) {
-        tell_version(host, other, version);
+    if let (Some(version), Some(other)) = (later.other, other_of(&request.operation)) {
+        report_version(host, other, version);
     }
 }
 
 /// Tells of those in the image of this name.
-fn tell_version<H: Host>(host: &mut H, image: &str, version: u32)
+fn report_version<H: Host>(host: &mut H, image: &str, version: u32)
     ensures kept { H.known host.new ≡ H.known host.old }
 {
-    say_version(
+    report_with_version(
         host,
         image,
         "a later commit of disk version ",

@@ -55,24 +55,24 @@ impl fmt::Display for Pieces<'_, '_> {
 }
 
 /// Tells a line on standard error: what it is of, and these pieces.
-pub(crate) fn say<H: Host>(host: &mut H, name: &str, pieces: &[Piece<'_>])
+pub(crate) fn report_pieces<H: Host>(host: &mut H, name: &str, pieces: &[Piece<'_>])
     ensures kept { H.known host.new ≡ H.known host.old }
 {
-    host.complain(Told {
+    host.report(Told {
         of: name,
         text: Pieces { pieces },
     });
 }
 
 /// Tells a line of words alone.
-pub(crate) fn say_words<H: Host>(host: &mut H, name: &str, words: &str)
+pub(crate) fn report_words<H: Host>(host: &mut H, name: &str, words: &str)
     ensures kept { H.known host.new ≡ H.known host.old }
 {
-    say(host, name, &[Piece::Text(words)]);
+    report_pieces(host, name, &[Piece::Text(words)]);
 }
 
 /// Tells a line with a disk version, and words in front of it and behind it.
-pub(crate) fn say_version<'a, H: Host>(
+pub(crate) fn report_with_version<'a, H: Host>(
     host: &mut H,
     name: &str,
     front: &'a str,
@@ -81,7 +81,7 @@ pub(crate) fn say_version<'a, H: Host>(
 )
     ensures kept { H.known host.new ≡ H.known host.old }
 {
-    say(
+    report_pieces(
         host,
         name,
         &[
@@ -93,7 +93,7 @@ pub(crate) fn say_version<'a, H: Host>(
 }
 
 /// Tells a line with a number of blocks of a size, and words in front of them and behind them.
-pub(crate) fn say_blocks<'a, H: Host>(
+pub(crate) fn report_with_blocks<'a, H: Host>(
     host: &mut H,
     name: &str,
     front: &'a str,
@@ -102,7 +102,7 @@ pub(crate) fn say_blocks<'a, H: Host>(
 )
     ensures kept { H.known host.new ≡ H.known host.old }
 {
-    say(
+    report_pieces(
         host,
         name,
         &[

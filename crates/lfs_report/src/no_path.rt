@@ -2,19 +2,19 @@
 
 ghost use Rattle.std.specs.Prelude.{◌≡◌};
 
-use crate::line::{Piece, say};
+use crate::line::{Piece, report_pieces};
 use lfs_host::Host;
 
 /// Tells why a text is no path, and which one may be meant.
-pub(crate) fn tell_no_path<H: Host>(host: &mut H, image: &str, text: &[u8])
+pub(crate) fn report_no_path<H: Host>(host: &mut H, image: &str, text: &[u8])
     ensures kept { H.known host.new ≡ H.known host.old }
 {
     if !text.starts_with(b"/") {
-        tell_relative(host, image, text);
+        report_relative(host, image, text);
     } else if text.ends_with(b"/") {
-        tell_closing(host, image, text);
+        report_closing(host, image, text);
     } else {
-        say(
+        report_pieces(
             host,
             image,
             &[Piece::Bytes(text), Piece::Text(flaw_of(text))],
@@ -23,10 +23,10 @@ pub(crate) fn tell_no_path<H: Host>(host: &mut H, image: &str, text: &[u8])
 }
 
 /// Tells that a text doesn't begin as a path does.
-fn tell_relative<'a, H: Host>(host: &mut H, image: &str, text: &'a [u8])
+fn report_relative<'a, H: Host>(host: &mut H, image: &str, text: &'a [u8])
     ensures kept { H.known host.new ≡ H.known host.old }
 {
-    say(
+    report_pieces(
         host,
         image,
         &[
@@ -38,11 +38,11 @@ fn tell_relative<'a, H: Host>(host: &mut H, image: &str, text: &'a [u8])
 }
 
 /// Tells that a slash stands behind the last name of a path.
-fn tell_closing<'a, H: Host>(host: &mut H, image: &str, text: &'a [u8])
+fn report_closing<'a, H: Host>(host: &mut H, image: &str, text: &'a [u8])
     ensures kept { H.known host.new ≡ H.known host.old }
 {
     let without = text.strip_suffix(b"/").unwrap_or(text);
-    say(
+    report_pieces(
         host,
         image,
         &[

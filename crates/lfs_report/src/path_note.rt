@@ -1,64 +1,64 @@
-//! What is told of the path for which a task is refused.
+//! What is told of the path for which an operation is refused.
 
 use crate::finding::Finding;
-use crate::task_paths::TaskPaths;
+use crate::operation_paths::OperationPaths;
 use lfs_command::{Command, Refusal, names_of};
 use lfs_fs::Limits;
 use lfs_history::Move;
-use lfs_request::{Place, Task};
+use lfs_request::{Operation, Place};
 use std::alloc::Global;
 
-/// A front of a task's path, by the length of its text.
+/// A prefix of an operation's path, by the length of its text.
 #[derive(Clone, Copy)]
-pub struct Front {
+pub struct Prefix {
     /// Whether it is of the path that something is moved to.
     pub is_of_target: bool,
     /// How many bytes of the path's text.
     pub len: usize,
 }
 
-/// What is told of a front of a task's path.
+/// What is told of a prefix of an operation's path.
 #[derive(Clone, Copy)]
 pub struct PathNote {
-    /// The front.
-    pub front: Front,
+    /// The prefix.
+    pub prefix: Prefix,
     /// What is said of it.
     pub finding: Finding,
 }
 
-/// What is told of the path for which a task is refused at a place, where the refusal is of a path. Takes memory.
+/// What is told of the path for which an operation is refused at a place, where the refusal is of a path. Takes memory.
 pub(crate) fn note_of(
     alloc: Global,
-    task: &Task<'_>,
+    operation: &Operation<'_>,
     refusal: Refusal,
     place: Option<Place>,
 ) -> Option<PathNote> {
-    let paths = TaskPaths::of(task)?;
+    let paths = OperationPaths::of(operation)?;
     match refusal {
         Refusal::BadPath => Some(PathNote {
-            front: bad_front(alloc, paths)?,
+            prefix: bad_prefix(alloc, paths)?,
             finding: Finding::NoPath,
         }),
-        refusal => note_at(task, paths, refusal, place?),
+        refusal => note_at(operation, paths, refusal, place?),
     }
 }
 
 /// What is told of it, where its texts are paths.
 fn note_at(
-    task: &Task<'_>,
-    paths: TaskPaths<'_>,
+    operation: &Operation<'_>,
+    paths: OperationPaths<'_>,
     refusal: Refusal,
     place: Place,
 ) -> Option<PathNote> {
-    let finding = present_as(paths, place, finding_of(task, refusal, place.limits)?);
+    let finding = present_as(paths, place, finding_of(operation, refusal, place.limits)?);
     Some(PathNote {
-        front: front_of(paths, place, finding),
+        prefix: prefix_of(paths, place, finding),
         finding,
     })
 }
 
 /// What a refusal says of a path.
-fn finding_of(task: &Task<'_>, refusal: Refusal, limits: Limits) -> Option<Finding> {
+fn finding_of(operation: &Operation<'_>, refusal: Refusal, limits: Limits) -> Option<Finding> {
     match refusal {
         Refusal::NotFound => Some(Finding::Missing),
         Refusal::Exists => Some(Finding::Present),
@@ -68,8 +68,8 @@ fn finding_of(task: &Task<'_>, refusal: Refusal, limits: Limits) -> Option<Findi
         Refusal::NameTooLong => Some(Finding::LongName(limits.name)),
         Refusal::FileTooLarge => Some(Finding::LongFile(limits.file)),
         Refusal::AttrTooLarge => Some(Finding::LongValue(limits.attribute)),
-        Refusal::NoAttr => match task {
-            Task::Change(
+        Refusal::NoAttr => match operation {
+            Operation::Change(
                 Move::Do {
                     command: Command::RmAttr { kind, .. },
                     ..
@@ -85,7 +85,7 @@ fn finding_of(task: &Task<'_>, refusal: Refusal, limits: Limits) -> Option<Findi
 }
 
 /// What is said of what is there already: that it is a directory, where something else is to be moved in its place.
-fn present_as(paths: TaskPaths<'_>, place: Place, finding: Finding) -> Finding {
+fn present_as(paths: OperationPaths<'_>, place: Place, finding: Finding) -> Finding {
     match (finding, paths.target) {
         (Finding::Present, Some(target)) if target != paths.path && place.is_directory => {
             Finding::PresentDirectory
@@ -94,11 +94,11 @@ fn present_as(paths: TaskPaths<'_>, place: Place, finding: Finding) -> Finding {
     }
 }
 
-/// The front of a task's path that a finding is of.
-fn front_of(paths: TaskPaths<'_>, place: Place, finding: Finding) -> Front {
+/// The prefix of an operation's path that a finding is of.
+fn prefix_of(paths: OperationPaths<'_>, place: Place, finding: Finding) -> Prefix {
     match finding {
-        Finding::Missing => paths.front(place.is_of_target, place.names.saturating_add(1)),
-        Finding::File => paths.front(place.is_of_target, place.names),
+        Finding::Missing => paths.prefix(place.is_of_target, place.names.saturating_add(1)),
+        Finding::File => paths.prefix(place.is_of_target, place.names),
         Finding::Root if paths.path.len() > 1 => paths.last(),
         Finding::Present | Finding::PresentDirectory | Finding::LongName(_) | Finding::LargeEntry =>
             paths.last(),
@@ -106,8 +106,8 @@ fn front_of(paths: TaskPaths<'_>, place: Place, finding: Finding) -> Front {
     }
 }
 
-/// The text of a task that is no path: the first one, where it isn't one.
-fn bad_front(alloc: Global, paths: TaskPaths<'_>) -> Option<Front> {
+/// The text of an operation that is no path: the first one, where it isn't one.
+fn bad_prefix(alloc: Global, paths: OperationPaths<'_>) -> Option<Prefix> {
     match names_of(alloc, paths.path) {
         Ok(_) => Some(paths.last()),
         Err(Refusal::BadPath) => Some(paths.first()),

@@ -13,7 +13,7 @@ use lfs_block::{Blocks, Image, MountFault};
 use lfs_command::Refusal;
 use lfs_history::{Move, StepFault};
 use lfs_journal::Journal;
-use lfs_request::{Fault, KeptJournal, Outcome, Place, Request, Task};
+use lfs_request::{Fault, KeptJournal, Operation, Outcome, Place, Request};
 use std::alloc::Global;
 
 /// Why bytes were refused as an image of blocks of `size` bytes, with what they state.
@@ -46,9 +46,9 @@ pub fn stop_of_run(
     let count = seen.count.or(blocks_in(size, &outcome.image));
     let at = outcome.at;
     let statement = match fault {
-        Fault::Step(fault) => changes_statement(alloc, &request.task, fault, outcome.journal),
+        Fault::Step(fault) => changes_statement(alloc, &request.operation, fault, outcome.journal),
         Fault::Refused(refusal) => {
-            refused_statement(alloc, &request.task, refusal, outcome, context)
+            refused_statement(alloc, &request.operation, refusal, outcome, context)
         }
         Fault::Mount(fault) => statement_of_bytes(alloc, size, fault, outcome.image, context),
         fault => statement_for(fault, Sight::of(size, &outcome.image), seen.other),
@@ -64,7 +64,7 @@ pub fn stop_of_run(
 /// What is known of a refusal: which command of a plan it was, whose text is put into `beside`, or what is known of its path.
 fn refused_statement(
     alloc: Global,
-    task: &Task<'_>,
+    operation: &Operation<'_>,
     refusal: Refusal,
     outcome: Outcome,
     context: &mut Context,
@@ -76,15 +76,15 @@ fn refused_statement(
             context.text = command;
             Some(Statement::Command)
         }
-        None => path_statement(note_of(alloc, task, refusal, place)),
+        None => path_statement(note_of(alloc, operation, refusal, place)),
     }
 }
 
-/// Why a folder wasn't made of an image for a task, with what that states, with the place of its fault, whose text is put into `beside`, or
-/// with what is known of the task's path at its place. Takes memory, and tells of nothing more where it is refused.
+/// Why a folder wasn't made of an image for an operation, with what that states, with the place of its fault, whose text is put into `beside`, or
+/// with what is known of the operation's path at its place. Takes memory, and tells of nothing more where it is refused.
 pub fn stop_of_extracting(
     alloc: Global,
-    task: &Task<'_>,
+    operation: &Operation<'_>,
     fault: Fault,
     image: Image,
     place: Option<Place>,
@@ -96,7 +96,7 @@ pub fn stop_of_extracting(
     let bytes = image.into_bytes();
     let statement = match fault {
         Fault::Mount(fault) => statement_of_bytes(alloc, size, fault, bytes, context),
-        Fault::Refused(refusal) => path_statement(note_of(alloc, task, refusal, place)),
+        Fault::Refused(refusal) => path_statement(note_of(alloc, operation, refusal, place)),
         fault => statement_for(fault, Sight::of(size, &bytes), Sight::none()),
     };
     Stop {
@@ -140,14 +140,14 @@ pub(crate) fn statement_of_mount(
     }
 }
 
-/// How many changes a journal has that are done, or undone, where a task asks for several and there are fewer.
+/// How many changes a journal has that are done, or undone, where an operation asks for several and there are fewer.
 fn changes_statement(
     alloc: Global,
-    task: &Task<'_>,
+    operation: &Operation<'_>,
     fault: StepFault,
     journal: KeptJournal,
 ) -> Option<Statement> {
-    let Task::Change(Move::Undo { steps: 2.. } | Move::Redo { steps: 2.. }) = task else {
+    let Operation::Change(Move::Undo { steps: 2.. } | Move::Redo { steps: 2.. }) = operation else {
         return None;
     };
     let bytes = journal.into_bytes(alloc)?;

@@ -3,7 +3,7 @@
 ghost use Rattle.std.specs.Prelude.{◌≡◌};
 
 use crate::hint::hint_at;
-use crate::line::{Piece, say, say_blocks, say_version};
+use crate::line::{Piece, report_pieces, report_with_blocks, report_with_version};
 use crate::stated::{Stated, StatedPlace};
 use lfs_host::Host;
 use lfs_lower::StatedVersion;
@@ -15,7 +15,7 @@ const FIRST_BLOCK: &str = "its first block states disk version ";
 const CHANGED: &str = "a device has changed it with disk version ";
 
 /// Tells what is stated somewhere in an image.
-pub(crate) fn tell_stated<H: Host>(
+pub(crate) fn report_stated<H: Host>(
     host: &mut H,
     image: &str,
     hint: Option<&'static str>,
@@ -27,33 +27,33 @@ pub(crate) fn tell_stated<H: Host>(
     let blocks = (stated.count as usize, stated.size);
     let version = stated.version;
     match place {
-        StatedPlace::Superblock => say_blocks(
+        StatedPlace::Superblock => report_with_blocks(
             host,
             image,
             "its superblock states ",
             blocks,
             " bytes",
         ),
-        StatedPlace::SuperblockVersion => tell_stated_version(
+        StatedPlace::SuperblockVersion => report_stated_version(
             host,
             image,
             hint,
             "its superblock states disk version ",
             version,
         ),
-        StatedPlace::FirstBlock => say_blocks(
+        StatedPlace::FirstBlock => report_with_blocks(
             host,
             image,
             "its first block states ",
             blocks,
             " bytes",
         ),
-        StatedPlace::Version => tell_stated_version(host, image, hint, FIRST_BLOCK, version),
+        StatedPlace::Version => report_stated_version(host, image, hint, FIRST_BLOCK, version),
     }
 }
 
 /// Tells the disk version that a block states of which version 2.0 reads no commit.
-pub(crate) fn tell_unread<H: Host>(
+pub(crate) fn report_unread<H: Host>(
     host: &mut H,
     image: &str,
     hint: Option<&'static str>,
@@ -66,11 +66,11 @@ pub(crate) fn tell_unread<H: Host>(
     } else {
         "its second block states disk version "
     };
-    tell_stated_version(host, image, hint, front, stated.version);
+    report_stated_version(host, image, hint, front, stated.version);
 }
 
 /// Tells a disk version that an image states, and by which words it is read.
-fn tell_stated_version<'a, H: Host>(
+fn report_stated_version<'a, H: Host>(
     host: &mut H,
     image: &str,
     hint: Option<&'static str>,
@@ -80,7 +80,7 @@ fn tell_stated_version<'a, H: Host>(
     ensures kept { H.known host.new ≡ H.known host.old }
 {
     match hint_at(version, hint) {
-        Some(hint) => say(
+        Some(hint) => report_pieces(
             host,
             image,
             &[
@@ -91,12 +91,12 @@ fn tell_stated_version<'a, H: Host>(
                 Piece::Text(" reads it"),
             ],
         ),
-        None => say_version(host, image, front, version, ""),
+        None => report_with_version(host, image, front, version, ""),
     }
 }
 
 /// Tells that a device has changed the image of this name, for which it is refused.
-pub(crate) fn tell_changed<H: Host>(
+pub(crate) fn report_changed<H: Host>(
     host: &mut H,
     image: &str,
     hint: Option<&'static str>,
@@ -105,7 +105,7 @@ pub(crate) fn tell_changed<H: Host>(
     ensures kept { H.known host.new ≡ H.known host.old }
 {
     match hint_at(version, hint) {
-        Some(hint) => say(
+        Some(hint) => report_pieces(
             host,
             image,
             &[
@@ -116,7 +116,7 @@ pub(crate) fn tell_changed<H: Host>(
                 Piece::Text(" reads it, --older goes on with the state before that"),
             ],
         ),
-        None => say_version(
+        None => report_with_version(
             host,
             image,
             CHANGED,
@@ -127,13 +127,13 @@ pub(crate) fn tell_changed<H: Host>(
 }
 
 /// Tells by which words an image is read whose superblock a device has expanded, where there are any.
-pub(crate) fn tell_expanded<H: Host>(host: &mut H, image: &str, hint: Option<&'static str>)
+pub(crate) fn report_expanded<H: Host>(host: &mut H, image: &str, hint: Option<&'static str>)
     ensures kept { H.known host.new ≡ H.known host.old }
 {
     let Some(hint) = hint else {
         return;
     };
-    say(
+    report_pieces(
         host,
         image,
         &[

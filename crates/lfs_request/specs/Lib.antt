@@ -3,5 +3,5 @@ pub mod KeptJournal
 pub mod Place
 pub mod Query
 pub mod SaidLimits
-pub mod Task
+pub mod Operation
 pub mod View

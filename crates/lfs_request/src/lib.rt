@@ -1,10 +1,11 @@
-//! What is asked for on an image, a task on an image's file, and what comes of it: an outcome, or a fault.
+//! What is asked for on an image, an operation on an image's file, and what comes of it: an outcome, or a fault.
 #![tactic(auto)]
 
 mod extent;
 mod fault;
 mod kept_journal;
 mod manner;
+mod operation;
 mod other_fault;
 mod outcome;
 mod place;
@@ -12,7 +13,6 @@ mod query;
 mod request;
 mod said_limits;
 mod source_image;
-mod task;
 mod tree_change;
 mod view;
 
@@ -20,6 +20,7 @@ pub use extent::Extent;
 pub use fault::Fault;
 pub use kept_journal::KeptJournal;
 pub use manner::Manner;
+pub use operation::Operation;
 pub use other_fault::OtherFault;
 pub use outcome::Outcome;
 pub use place::Place;
@@ -27,6 +28,5 @@ pub use query::Query;
 pub use request::Request;
 pub use said_limits::SaidLimits;
 pub use source_image::SourceImage;
-pub use task::Task;
 pub use tree_change::TreeChange;
 pub use view::View;

@@ -1,12 +1,12 @@
 //! What is asked for on an image.
 
-use crate::task::Task;
+use crate::operation::Operation;
 
 /// What is asked for on an image.
 #[derive(Drop)]
 pub struct Request<'a> {
     /// What is to be done.
-    pub task: Task<'a>,
+    pub operation: Operation<'a>,
     /// The block size, in bytes.
     pub size: u32,
     /// Whether a file that is there is not replaced by a new image.

@@ -53,7 +53,7 @@ marked_more looked i uses u within is =
 -- the host refuses the first of what is to be made
 pub front_refused : (old new : Option (List Made)) (one : Made) (rest : List Made) → new ≡ old → MakesFront old new (one ∷ rest)
 front_refused old new one rest same = record {
-  front = [];
+  prefix = [];
   next = one;
   rest = rest;
   split = refl;

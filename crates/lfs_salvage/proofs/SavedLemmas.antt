@@ -162,4 +162,4 @@ module _ (d e : Disk) (dir : List ℕ) (old new : Option (List Made)) (survey : 
 
 -- all is made, and then memory is refused
 pub all_first : (old new : Option (List Made)) (complete : List Made) → Makes old new complete → MakesFirst old new complete
-all_first old new complete made = record { front = complete; rest = []; split = append-nil complete; made = made }
+all_first old new complete made = record { prefix = complete; rest = []; split = append-nil complete; made = made }

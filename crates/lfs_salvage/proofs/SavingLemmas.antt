@@ -16,30 +16,30 @@ module _ (old mid : Option (List Made)) (here later complete : List Made) (h : I
   -- one more is made
   pub way_more : (new : Option (List Made)) → Makes mid new here → IsOnWay old new later complete
   way_more new made = record {
-    front = h.front ++ here;
-    made = makes_then old mid new h.front here h.made made;
-    all = append_assoc h.front here later ∙ h.all;
+    prefix = h.prefix ++ here;
+    made = makes_then old mid new h.prefix here h.made made;
+    all = append_assoc h.prefix here later ∙ h.all;
   }
 
   front_more : (new : Option (List Made)) → MakesFront mid new here → MakesFront old new complete
   front_more new f = record {
-    front = h.front ++ f.front;
+    prefix = h.prefix ++ f.prefix;
     next = f.next;
     rest = f.rest ++ later;
-    split = append_assoc h.front f.front (f.next ∷ f.rest ++ later)
-        ∙ ap (λ (xs : List Made). h.front ++ xs) (sym (append_assoc f.front (f.next ∷ f.rest) later) ∙ ap (λ (xs : List Made). xs ++ later) f.split)
+    split = append_assoc h.prefix f.prefix (f.next ∷ f.rest ++ later)
+        ∙ ap (λ (xs : List Made). h.prefix ++ xs) (sym (append_assoc f.prefix (f.next ∷ f.rest) later) ∙ ap (λ (xs : List Made). xs ++ later) f.split)
         ∙ h.all;
-    made = makes_then old mid new h.front f.front h.made f.made;
+    made = makes_then old mid new h.prefix f.prefix h.made f.made;
   }
 
   first_more : (new : Option (List Made)) → MakesFirst mid new here → MakesFirst old new complete
   first_more new f = record {
-    front = h.front ++ f.front;
+    prefix = h.prefix ++ f.prefix;
     rest = f.rest ++ later;
-    split = append_assoc h.front f.front (f.rest ++ later)
-        ∙ ap (λ (xs : List Made). h.front ++ xs) (sym (append_assoc f.front f.rest later) ∙ ap (λ (xs : List Made). xs ++ later) f.split)
+    split = append_assoc h.prefix f.prefix (f.rest ++ later)
+        ∙ ap (λ (xs : List Made). h.prefix ++ xs) (sym (append_assoc f.prefix f.rest later) ∙ ap (λ (xs : List Made). xs ++ later) f.split)
         ∙ h.all;
-    made = makes_then old mid new h.front f.front h.made f.made;
+    made = makes_then old mid new h.prefix f.prefix h.made f.made;
   }
 
   -- or it ends
@@ -50,7 +50,7 @@ module _ (old mid : Option (List Made)) (here later complete : List Made) (h : I
 
 -- memory is refused before anything more is made
 pub way_stops : (old new : Option (List Made)) (rest complete : List Made) → IsOnWay old new rest complete → MakesFirst old new complete
-way_stops old new rest complete h = record { front = h.front; rest = rest; split = h.all; made = h.made }
+way_stops old new rest complete h = record { prefix = h.prefix; rest = rest; split = h.all; made = h.made }
 
 pub none_first : (old : Option (List Made)) (complete : List Made) → MakesFirst old old complete
 none_first old complete = way_stops old old complete complete (on_way old complete)
@@ -58,7 +58,7 @@ none_first old complete = way_stops old old complete complete (on_way old comple
 -- the host refuses one
 pub none_front : (old new : Option (List Made)) (one : Made) → new ≡ old → MakesFront old new (one ∷ [])
 none_front old new one same = record {
-  front = [];
+  prefix = [];
   next = one;
   rest = [];
   split = refl;
@@ -117,7 +117,7 @@ pub then_stops : (fault : ExtractFault) (old mid new : Option (List Made)) (firs
     → Stops fault mid new second → Stops fault old new (first ++ second)
 then_stops fault old mid new first second made later =
     stops old mid second [] (first ++ second)
-    (record { front = first; made = made; all = ap (λ (xs : List Made). first ++ xs) (append-nil second) }) fault new later
+    (record { prefix = first; made = made; all = ap (λ (xs : List Made). first ++ xs) (append-nil second) }) fault new later
 
 -- some are made, and then others
 pub then_saves : {T : Type 0} (result : Result T ExtractFault) (old mid new : Option (List Made)) (first second : List Made)

@@ -7,10 +7,10 @@ use Rattle.lfs_host.specs.NewFolder.{Made, Makes}
 
 -- those in front were made, perhaps all, and no other
 pub record MakesFirst (old new : Option (List Made)) (complete : List Made) : Type 0 where
-  pub front : List Made
+  pub prefix : List Made
   pub rest : List Made
-  pub split : front ++ rest ≡ complete
-  pub made : Makes old new front
+  pub split : prefix ++ rest ≡ complete
+  pub made : Makes old new prefix
 
 -- what is made where the fault ends it: those in front of one that the host refuses, or those in front where memory is refused
 abbrev pub Stops : ExtractFault → Option (List Made) → Option (List Made) → List Made → Type 0

@@ -19,12 +19,12 @@ use Rattle.lfs_host.specs.Scene.{KeepsScene, Scene}
 use Rattle.lfs_exchange.specs.Handing.{IsUnread}
 use Rattle.lfs_texts.specs.Steps.{Keeps}
 use Rattle.lfs_texts.specs.declared.script_line.ScriptLine.{ScriptLine}
-use Rattle.lfs_request.specs.declared.task.Task.TheVariants as task
+use Rattle.lfs_request.specs.declared.operation.Operation.TheVariants as operation
 use Rattle.lfs_step.specs.declared.step.Step.TheVariants.{Change}
 use Rattle.lfs_exchange.specs.StepKind.{kind_of_steps}
 use Rattle.lfs_serve.specs.Batching.{BecomesBatch, BecomesNoBatch, HandsLine, KeepInRange, LinesKeep, MeansMove, ReadsScript, SaysNoSteps, TakesLines, TakesText, as_asked, command_in, commands_in, listed, move_said, moves_said}
 use Rattle.lfs_serve.specs.Lines.{EndsLines}
-use Rattle.lfs_serve.specs.Program.{EndsTask, as_it_is}
+use Rattle.lfs_serve.specs.Program.{EndsOperation, as_it_is}
 use Rattle.lfs_serve.proofs.StepLemmas.{step_from}
 
 -- ---- lines that are read
@@ -210,9 +210,9 @@ from_mid file text keep one old mid moves reads files takes =
 pub script_ends : (file : Option (Bor (List ℕ))) (text : List ℕ) (keep : Option ℕ) (one : Bool) (older : Bool) (size : ℕ) (name : List ℕ)
     (old mid new : Scene) (ended fault : Option Fault) → ended ≡ fault → ReadsScript file old text → KeepsScene old mid
     → EndsLines (TakesText mid.files keep one text) (λ why. IsUnread new why ⊎ SaysNoSteps one text why) older size name mid new fault
-    → EndsTask (task.Batch file keep one) older size name old new ended
+    → EndsOperation (operation.Batch file keep one) older size name old new ended
 script_ends file text keep one older size name old mid new ended fault is reads kept ends =
-    subst (EndsTask (task.Batch file keep one) older size name old new) (sym is) (
+    subst (EndsOperation (operation.Batch file keep one) older size name old new) (sym is) (
     elim ends [
       | inl did ↦ inl (
         Change did.0,

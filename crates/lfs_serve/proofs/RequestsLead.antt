@@ -38,13 +38,13 @@ use Rattle.lfs_serve.specs.StepKind.{kind_of}
 use Rattle.lfs_exchange.specs.Storing.{HasBoth, LeavesFiles, SparesFiles, journal_name, new_name, new_names}
 use Rattle.lfs_host.specs.Files.{Apart, BeginsWith, Files, FindsFile, ReadsFile, bytes_there}
 use Rattle.lfs_host.specs.Scene.{KeepsScene, Scene, WasRefused, unknown}
-use Rattle.lfs_request.specs.declared.task.Task.{Task}
-use Rattle.lfs_request.specs.declared.task.Task.TheVariants as task
+use Rattle.lfs_request.specs.declared.operation.Operation.{Operation}
+use Rattle.lfs_request.specs.declared.operation.Operation.TheVariants as operation
 use Rattle.lfs_serve.specs.HostFolder.{packed_row}
 use Rattle.lfs_pack.specs.Repacked.{all_packed}
 use Rattle.lfs_serve.specs.ReadBy.{IsReadBy}
-use Rattle.lfs_serve.specs.Program.{BecomesStep, EndsStep, EndsTask, IsNotBegun, StopsStep, manner_of}
-use Rattle.lfs_serve.specs.Requests.{FilesDenote, IsServedOn, IsTorn, RequestGoes, RequestsLeadOn, Served, TaskGoes, TaskGoesBy}
+use Rattle.lfs_serve.specs.Program.{BecomesStep, EndsStep, EndsOperation, IsNotBegun, StopsStep, manner_of}
+use Rattle.lfs_serve.specs.Requests.{FilesDenote, IsServedOn, IsTorn, RequestGoes, RequestsLeadOn, Served, OperationGoes, OperationGoesBy}
 use Rattle.lfs_serve.proofs.StepLemmas.{handed_from}
 
 -- ---- names
@@ -310,21 +310,21 @@ stop_leaves s manner size name scene behind fault old new h before later denotes
       | inr (place, image) ↦ inr (place, host_status behind fault unwritten, image)
     ]
 
--- ---- tasks
+-- ---- operations
 
 -- the rows of a folder say what is packed, and no other step has any
-good_step : (t : Task) (size : ℕ) (scene : Scene) (s : Step) → BecomesStep t size scene s → HasGoodRows s
-good_step (task.Pack extent limits dir) size scene (Pack count stated rows) (folder, counts, same) = (map packed_row folder.shown, folder.packed)
-good_step (task.Repack source extent said) size scene (Pack count stated rows) packs =
+good_step : (t : Operation) (size : ℕ) (scene : Scene) (s : Step) → BecomesStep t size scene s → HasGoodRows s
+good_step (operation.Pack extent limits dir) size scene (Pack count stated rows) (folder, counts, same) = (map packed_row folder.shown, folder.packed)
+good_step (operation.Repack source extent said) size scene (Pack count stated rows) packs =
     (all_packed (image_of source.size packs.image) packs.mounted.rows, packs.rows_are)
-good_step (task.Format many limits) size scene (Pack count stated rows) becomes = absurd becomes
-good_step (task.Extract dir path view) size scene (Pack count stated rows) becomes = absurd becomes
-good_step (task.Salvage dir view) size scene (Pack count stated rows) becomes = absurd becomes
-good_step (task.Ask query form view) size scene (Pack count stated rows) becomes = absurd becomes
-good_step task.Forget size scene (Pack count stated rows) becomes = absurd becomes
-good_step (task.Change move) size scene (Pack count stated rows) becomes = absurd becomes
-good_step (task.Tree change keep) size scene (Pack count stated rows) becomes = absurd becomes
-good_step (task.Batch file keep one) size scene (Pack count stated rows) becomes = absurd becomes
+good_step (operation.Format many limits) size scene (Pack count stated rows) becomes = absurd becomes
+good_step (operation.Extract dir path view) size scene (Pack count stated rows) becomes = absurd becomes
+good_step (operation.Salvage dir view) size scene (Pack count stated rows) becomes = absurd becomes
+good_step (operation.Ask query form view) size scene (Pack count stated rows) becomes = absurd becomes
+good_step operation.Forget size scene (Pack count stated rows) becomes = absurd becomes
+good_step (operation.Change move) size scene (Pack count stated rows) becomes = absurd becomes
+good_step (operation.Tree change keep) size scene (Pack count stated rows) becomes = absurd becomes
+good_step (operation.Batch file keep one) size scene (Pack count stated rows) becomes = absurd becomes
 good_step t size scene (Format count limits) becomes = tt
 good_step t size scene (Ask query form) becomes = tt
 good_step t size scene Forget becomes = tt
@@ -332,41 +332,41 @@ good_step t size scene (Change steps) becomes = tt
 good_step t size scene (Tree change keep) becomes = tt
 
 -- where a request leads, or that it is torn
-data Ends (size : ℕ) (name : List ℕ) (t : Task) (scene behind : Scene) (fault : Option Fault) (old new : Files) (h : History) : Type 0 where
-  Leads : (next : History) → TaskGoesBy fault size t scene h next → FilesDenote size name new next → Ends size name t scene behind fault old new h
+data Ends (size : ℕ) (name : List ℕ) (t : Operation) (scene behind : Scene) (fault : Option Fault) (old new : Files) (h : History) : Type 0 where
+  Leads : (next : History) → OperationGoesBy fault size t scene h next → FilesDenote size name new next → Ends size name t scene behind fault old new h
   Tears : IsTornBy behind (status_of fault) name old new → Ends size name t scene behind fault old new h
 
 -- what wasn't done leaves the history, or tears
-stopped : (size : ℕ) (name : List ℕ) (t : Task) (scene behind : Scene) (fault : Fault) (old new : Files) (h : History)
+stopped : (size : ℕ) (name : List ℕ) (t : Operation) (scene behind : Scene) (fault : Fault) (old new : Files) (h : History)
     → FilesDenote size name new h ⊎ IsTornBy behind (status_of (Some fault)) name old new → Ends size name t scene behind (Some fault) old new h
 stopped size name t scene behind fault old new h (inl denotes) = Leads h refl denotes
 stopped size name t scene behind fault old new h (inr torn) = Tears torn
 
 -- a folder that is made leaves the history
 extracted : (fault : Option Fault) (size : ℕ) (dir path : Bor (List ℕ)) (view : View) (scene : Scene) (h : History)
-    → TaskGoesBy fault size (task.Extract dir path view) scene h h
+    → OperationGoesBy fault size (operation.Extract dir path view) scene h h
 extracted None size dir path view scene h = refl
 extracted (Some fault) size dir path view scene h = refl
 
 salvaged : (fault : Option Fault) (size : ℕ) (dir : Bor (List ℕ)) (view : View) (scene : Scene) (h : History)
-    → TaskGoesBy fault size (task.Salvage dir view) scene h h
+    → OperationGoesBy fault size (operation.Salvage dir view) scene h h
 salvaged None size dir view scene h = refl
 salvaged (Some fault) size dir view scene h = refl
 
 -- the name of an image that is to be new is taken: nothing is done
-name_taken : (fault : Option Fault) (size : ℕ) (name : List ℕ) (t : Task) (scene behind : Scene) (old new : Files) (h : History)
+name_taken : (fault : Option Fault) (size : ℕ) (name : List ℕ) (t : Operation) (scene behind : Scene) (old new : Files) (h : History)
     → fault ≡ Some CannotWrite → FilesDenote size name new h → Ends size name t scene behind fault old new h
 name_taken fault size name t scene behind old new h is denotes =
     subst (λ (f : Option Fault). Ends size name t scene behind f old new h) (sym is) (Leads h refl denotes)
 
--- as the step that a task becomes, or before that
-abbrev EndsAsStep : Task → Bool → ℕ → List ℕ → Scene → Scene → Option Fault → Type 0
+-- as the step that an operation becomes, or before that
+abbrev EndsAsStep : Operation → Bool → ℕ → List ℕ → Scene → Scene → Option Fault → Type 0
 EndsAsStep t older size name old new fault =
     ((s : Step) × BecomesStep t size old s × EndsStep s (manner_of t older) size name old new fault)
     ⊎ (KeepsScene old new × ((why : Fault) × (fault ≡ Some why) × IsNotBegun t name old new why))
 
--- the task of a question becomes one
-asking : (query : Query (Bor (List ℕ))) (form : Form) (view : View) (size : ℕ) (scene : Scene) (s : Step) → BecomesStep (task.Ask query form view) size scene s
+-- the operation of a question becomes one
+asking : (query : Query (Bor (List ℕ))) (form : Form) (view : View) (size : ℕ) (scene : Scene) (s : Step) → BecomesStep (operation.Ask query form view) size scene s
     → IsAsking s
 asking query form view size scene (Ask question said) becomes = (question, said, refl)
 asking query form view size scene (Format count limits) becomes = absurd becomes
@@ -375,9 +375,9 @@ asking query form view size scene Forget becomes = absurd becomes
 asking query form view size scene (Change steps) becomes = absurd becomes
 asking query form view size scene (Tree change keep) becomes = absurd becomes
 
--- a task that becomes a step
-step_ends : Laws → (fault : Option Fault) (t : Task) (older : Bool) (size : ℕ) (name : List ℕ) (scene behind : Scene) (old new : Files) (h : History)
-    → ((next : History) → (s : Step) × BecomesStep t size scene s × GoesOn size s h next → TaskGoes size t scene h next)
+-- an operation that becomes a step
+step_ends : Laws → (fault : Option Fault) (t : Operation) (older : Bool) (size : ℕ) (name : List ℕ) (scene behind : Scene) (old new : Files) (h : History)
+    → ((next : History) → (s : Step) × BecomesStep t size scene s × GoesOn size s h next → OperationGoes size t scene h next)
     → ((s : Step) → BecomesStep t size scene s → IsReadFor s (manner_of t older))
     → scene.files ≡ Some old → behind.files ≡ Some new → FilesDenote size name old h → EndsAsStep t older size name scene behind fault
     → Ends size name t scene behind fault old new h
@@ -391,37 +391,37 @@ step_ends laws (Some fault) t older size name scene behind old new h turn for be
 step_ends laws (Some fault) t older size name scene behind old new h turn for before later denotes (inr (keeps, not)) =
     Leads h refl (same_files size name old new h (sym later ∙ keeps.0 ∙ before) denotes)
 
--- any task
-task_ends : Laws → (fault : Option Fault) (t : Task) (older : Bool) (size : ℕ) (name : List ℕ) (scene behind : Scene) (old new : Files) (h : History)
-    → scene.files ≡ Some old → behind.files ≡ Some new → FilesDenote size name old h → EndsTask t older size name scene behind fault
+-- any operation
+operation_ends : Laws → (fault : Option Fault) (t : Operation) (older : Bool) (size : ℕ) (name : List ℕ) (scene behind : Scene) (old new : Files) (h : History)
+    → scene.files ≡ Some old → behind.files ≡ Some new → FilesDenote size name old h → EndsOperation t older size name scene behind fault
     → Ends size name t scene behind fault old new h
-task_ends laws fault (task.Extract dir path view) older size name scene behind old new h before later denotes ends =
+operation_ends laws fault (operation.Extract dir path view) older size name scene behind old new h before later denotes ends =
     Leads h (extracted fault size dir path view scene h) (same_files size name old new h (sym later ∙ ends.0.0 ∙ before) denotes)
-task_ends laws fault (task.Salvage dir view) older size name scene behind old new h before later denotes ends =
+operation_ends laws fault (operation.Salvage dir view) older size name scene behind old new h before later denotes ends =
     Leads h (salvaged fault size dir view scene h) (same_files size name old new h (sym later ∙ ends.0.0 ∙ before) denotes)
-task_ends laws fault (task.Format count limits) older size name scene behind old new h before later denotes ends =
-    step_ends laws fault (task.Format count limits) older size name scene behind old new h (λ next goes. goes) (λ s becomes. inl refl) before later
+operation_ends laws fault (operation.Format count limits) older size name scene behind old new h before later denotes ends =
+    step_ends laws fault (operation.Format count limits) older size name scene behind old new h (λ next goes. goes) (λ s becomes. inl refl) before later
     denotes ends
-task_ends laws fault (task.Pack extent limits dir) older size name scene behind old new h before later denotes ends =
-    step_ends laws fault (task.Pack extent limits dir) older size name scene behind old new h (λ next goes. goes) (λ s becomes. inl refl) before later
+operation_ends laws fault (operation.Pack extent limits dir) older size name scene behind old new h before later denotes ends =
+    step_ends laws fault (operation.Pack extent limits dir) older size name scene behind old new h (λ next goes. goes) (λ s becomes. inl refl) before later
     denotes ends
-task_ends laws fault (task.Repack source extent said) older size name scene behind old new h before later denotes ends =
-    step_ends laws fault (task.Repack source extent said) older size name scene behind old new h (λ next goes. goes) (λ s becomes. inl refl) before later
+operation_ends laws fault (operation.Repack source extent said) older size name scene behind old new h before later denotes ends =
+    step_ends laws fault (operation.Repack source extent said) older size name scene behind old new h (λ next goes. goes) (λ s becomes. inl refl) before later
     denotes ends
-task_ends laws fault (task.Ask query form view) older size name scene behind old new h before later denotes ends =
-    step_ends laws fault (task.Ask query form view) older size name scene behind old new h (λ next goes. goes)
+operation_ends laws fault (operation.Ask query form view) older size name scene behind old new h before later denotes ends =
+    step_ends laws fault (operation.Ask query form view) older size name scene behind old new h (λ next goes. goes)
     (λ s becomes. inr (asking query form view size scene s becomes)) before later denotes ends
-task_ends laws fault task.Forget older size name scene behind old new h before later denotes ends =
-    step_ends laws fault task.Forget older size name scene behind old new h (λ next goes. goes) (λ s becomes. inl refl) before later
+operation_ends laws fault operation.Forget older size name scene behind old new h before later denotes ends =
+    step_ends laws fault operation.Forget older size name scene behind old new h (λ next goes. goes) (λ s becomes. inl refl) before later
     denotes ends
-task_ends laws fault (task.Change move) older size name scene behind old new h before later denotes ends =
-    step_ends laws fault (task.Change move) older size name scene behind old new h (λ next goes. goes) (λ s becomes. inl refl) before later
+operation_ends laws fault (operation.Change move) older size name scene behind old new h before later denotes ends =
+    step_ends laws fault (operation.Change move) older size name scene behind old new h (λ next goes. goes) (λ s becomes. inl refl) before later
     denotes ends
-task_ends laws fault (task.Tree change keep) older size name scene behind old new h before later denotes ends =
-    step_ends laws fault (task.Tree change keep) older size name scene behind old new h (λ next goes. goes) (λ s becomes. inl refl) before later
+operation_ends laws fault (operation.Tree change keep) older size name scene behind old new h before later denotes ends =
+    step_ends laws fault (operation.Tree change keep) older size name scene behind old new h (λ next goes. goes) (λ s becomes. inl refl) before later
     denotes ends
-task_ends laws fault (task.Batch file keep one) older size name scene behind old new h before later denotes ends =
-    step_ends laws fault (task.Batch file keep one) older size name scene behind old new h (λ next goes. goes) (λ s becomes. inl refl) before later
+operation_ends laws fault (operation.Batch file keep one) older size name scene behind old new h before later denotes ends =
+    step_ends laws fault (operation.Batch file keep one) older size name scene behind old new h (λ next goes. goes) (λ s becomes. inl refl) before later
     denotes ends
 
 -- ---- requests
@@ -432,7 +432,7 @@ GoesOrTears size name s old new h =
     IsTorn name s old new ⊎ ((next : History) × RequestGoes size s h next × FilesDenote size name new next)
 
 by_end : (size : ℕ) (name : List ℕ) (s : Served) (fault : Option Fault) (old new : Files) (h : History) → s.status ≡ status_of fault
-    → Ends size name s.request.task s.old s.new fault old new h → GoesOrTears size name s old new h
+    → Ends size name s.request.operation s.old s.new fault old new h → GoesOrTears size name s old new h
 by_end size name s fault old new h status (Leads next goes denotes) = inr (next, (fault, status, goes), denotes)
 by_end size name s fault old new h status (Tears (place, four, image)) =
     inl (record { status = status ∙ four; place = place; image = image })
@@ -441,17 +441,17 @@ request_ends : Laws → (size : ℕ) (name : List ℕ) (s : Served) (old new : F
     → IsServedOn size name s old new → GoesOrTears size name s old new h
 request_ends laws size name s old new h denotes is =
     let fault = is.ends.fault in
-    let t = s.request.task in
+    let t = s.request.operation in
     let older = s.request.takes_older in
-    let by_task : EndsTask t older s.request.size s.request.image.now s.old s.new fault → Ends size name t s.old s.new fault old new h = λ ends.
-    let by_size = subst (λ (n : ℕ). EndsTask t older n s.request.image.now s.old s.new fault) is.size_is ends in
-    let by_name = subst (λ (n : List ℕ). EndsTask t older size n s.old s.new fault) is.name_is by_size in
-    task_ends laws fault t older size name s.old s.new old new h is.before is.behind denotes by_name in
+    let by_operation : EndsOperation t older s.request.size s.request.image.now s.old s.new fault → Ends size name t s.old s.new fault old new h = λ ends.
+    let by_size = subst (λ (n : ℕ). EndsOperation t older n s.request.image.now s.old s.new fault) is.size_is ends in
+    let by_name = subst (λ (n : List ℕ). EndsOperation t older size n s.old s.new fault) is.name_is by_size in
+    operation_ends laws fault t older size name s.old s.new old new h is.before is.behind denotes by_name in
     let same : KeepsScene s.old s.new → FilesDenote size name new h = λ keeps.
     same_files size name old new h (sym is.behind ∙ keeps.0 ∙ is.before) denotes in
     by_end size name s fault old new h is.ends.status_is (
     elim is.ends.ends [
-      | inl task ↦ by_task task.1
+      | inl operation ↦ by_operation operation.1
       | inr taken ↦ name_taken fault size name t s.old s.new old new h taken.1 (same taken.3)
     ]
     )

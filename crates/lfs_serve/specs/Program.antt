@@ -14,8 +14,8 @@ use Rattle.lfs_host.specs.Files.{IsMissing}
 use Rattle.lfs_host.specs.Scene.{HasRefused, KeepsScene, Scene}
 use Rattle.lfs_pack.specs.declared.pack_row.PackRow.{PackRow}
 use Rattle.lfs_request.specs.declared.request.Request.{Request}
-use Rattle.lfs_request.specs.declared.task.Task.{Task}
-use Rattle.lfs_request.specs.declared.task.Task.TheVariants.{Format, Pack, Repack, Extract, Salvage, Ask, Forget, Change, Tree, Batch}
+use Rattle.lfs_request.specs.declared.operation.Operation.{Operation}
+use Rattle.lfs_request.specs.declared.operation.Operation.TheVariants.{Format, Pack, Repack, Extract, Salvage, Ask, Forget, Change, Tree, Batch}
 use Rattle.lfs_serve.specs.Extent.{IsExtent}
 use Rattle.lfs_step.specs.declared.step.Step.{Step}
 use Rattle.lfs_step.specs.declared.step.Step.TheVariants as step
@@ -86,10 +86,10 @@ EndsStep step manner size name old new None =
     × LeavesFiles (kind_of step) old.files new.files name outcome × HandsOn (kind_of step) new
 EndsStep step manner size name old new (Some fault) = StopsStep step manner size name old new fault
 
--- ---- a task
+-- ---- an operation
 
--- the step that a task becomes on blocks of a size, with all that is read of a host for it in hand
-abbrev pub BecomesStep : Task → ℕ → Scene → Step → Type 0
+-- the step that an operation becomes on blocks of a size, with all that is read of a host for it in hand
+abbrev pub BecomesStep : Operation → ℕ → Scene → Step → Type 0
 BecomesStep (Format count limits) size s (step.Format blocks stated) = (blocks ≡ count) × (stated ≡ limits)
 BecomesStep (Pack extent limits dir) size s (step.Pack count stated rows) =
     PacksFolder s.tree dir.now rows.now × IsExtent size limits rows.now extent count × (stated ≡ limits)
@@ -103,18 +103,18 @@ BecomesStep (Tree change keep) size s (step.Tree became kept) = BecomesChange ch
 BecomesStep (Batch file keep one) size s (step.Change steps) = BecomesBatch file keep one s (map step_of steps.now)
 BecomesStep _ size s _ = ⊥
 
--- the manner in which the image is read that a task is done on: as all of its file, as it is, or as the task looks at it
+-- the manner in which the image is read that an operation is done on: as all of its file, as it is, or as the operation looks at it
 abbrev pub as_it_is : Bool → Manner
 as_it_is older = record { takes_older = older; view = complete_view }
 
-abbrev pub manner_of : Task → Bool → Manner
+abbrev pub manner_of : Operation → Bool → Manner
 manner_of (Extract dir path view) older = record { takes_older = older; view = view }
 manner_of (Salvage dir view) older = record { takes_older = older; view = view }
 manner_of (Ask query form view) older = record { takes_older = older; view = view }
 manner_of _ older = as_it_is older
 
 -- the kind of that step, which is known before the image's files are taken up, once a folder or a script is read
-abbrev pub HasKind : Task → Scene → StepKind → Type 0
+abbrev pub HasKind : Operation → Scene → StepKind → Type 0
 HasKind (Format count limits) s kind = kind ≡ Makes
 HasKind (Pack extent limits dir) s kind = (kind ≡ Makes) × ((rows : List PackRow) × PacksFolder s.tree dir.now rows)
 HasKind (Repack source extent said) s kind = kind ≡ Makes
@@ -126,8 +126,8 @@ HasKind (Change move) s kind = kind ≡ Changes
 HasKind (Tree change keep) s kind = (kind ≡ Changes) × IsReadFirst change s
 HasKind (Batch file keep one) s kind = (moves : List change.Move) × BecomesBatch file keep one s moves × (kind ≡ kind_of_steps moves)
 
--- why what is read for a task isn't, but for the image's files: its folder, its script, or contents, or another image, also as it is read
-abbrev pub IsNotRead : Task → Scene → Scene → Fault → Type 0
+-- why what is read for an operation isn't, but for the image's files: its folder, its script, or contents, or another image, also as it is read
+abbrev pub IsNotRead : Operation → Scene → Scene → Fault → Type 0
 IsNotRead (Pack extent limits dir) old new why = ReadsNoFolder old.tree dir.now new why
 IsNotRead (Tree change keep) old new why = IsNotReadFor change old new why
 IsNotRead (Batch file keep one) old new why = BecomesNoBatch file one old new why
@@ -136,40 +136,40 @@ IsNotRead (Repack source extent said) old new why = RefusesSource source old new
 IsNotRead (Ask query form view) old new why = IsOtherUnread new why
 IsNotRead _ old new why = ⊥
 
--- why no step of a task is run: what is read for it isn't, or its image's files aren't taken up
-abbrev pub IsNotBegun : Task → List ℕ → Scene → Scene → Fault → Type 0
-IsNotBegun task name old new why =
-    IsNotRead task old new why ⊎ ((kind : StepKind) × HasKind task old kind × IsNotTakenUp kind new name why)
+-- why no step of an operation is run: what is read for it isn't, or its image's files aren't taken up
+abbrev pub IsNotBegun : Operation → List ℕ → Scene → Scene → Fault → Type 0
+IsNotBegun operation name old new why =
+    IsNotRead operation old new why ⊎ ((kind : StepKind) × HasKind operation old kind × IsNotTakenUp kind new name why)
 
--- how a task on an image's file ends: as a folder that is made; as the step that it becomes; or before that, with nothing changed
-abbrev pub EndsTask : Task → Bool → ℕ → List ℕ → Scene → Scene → Option Fault → Type 0
-EndsTask (Extract dir path view) older size name old new fault =
+-- how an operation on an image's file ends: as a folder that is made; as the step that it becomes; or before that, with nothing changed
+abbrev pub EndsOperation : Operation → Bool → ℕ → List ℕ → Scene → Scene → Option Fault → Type 0
+EndsOperation (Extract dir path view) older size name old new fault =
     EndsExtract (record { takes_older = older; view = view }) size name path.now dir.now old new fault
-EndsTask (Salvage dir view) older size name old new fault =
+EndsOperation (Salvage dir view) older size name old new fault =
     EndsSalvage (record { takes_older = older; view = view }) size name dir.now old new fault
-EndsTask task older size name old new fault =
-    ((step : Step) × BecomesStep task size old step × EndsStep step (manner_of task older) size name old new fault)
-    ⊎ (KeepsScene old new × ((why : Fault) × (fault ≡ Some why) × IsNotBegun task name old new why))
+EndsOperation operation older size name old new fault =
+    ((step : Step) × BecomesStep operation size old step × EndsStep step (manner_of operation older) size name old new fault)
+    ⊎ (KeepsScene old new × ((why : Fault) × (fault ≡ Some why) × IsNotBegun operation name old new why))
 
 -- ---- what is left besides
 
--- whether a task reads standard input: a file that is put from there, or a script that comes there
-abbrev pub task_reads_input : Task → Bool
-task_reads_input (Change move) = reads_input move
-task_reads_input (Tree change keep) = change_reads_input change
-task_reads_input (Batch None keep one) = true
-task_reads_input _ = false
+-- whether an operation reads standard input: a file that is put from there, or a script that comes there
+abbrev pub operation_reads_input : Operation → Bool
+operation_reads_input (Change move) = reads_input move
+operation_reads_input (Tree change keep) = change_reads_input change
+operation_reads_input (Batch None keep one) = true
+operation_reads_input _ = false
 
--- whether a task makes a folder
-abbrev pub makes_folder : Task → Bool
+-- whether an operation makes a folder
+abbrev pub makes_folder : Operation → Bool
 makes_folder (Extract dir path view) = true
 makes_folder (Salvage dir view) = true
 makes_folder _ = false
 
--- what is left on standard input is as it was but where the task reads it, and what was made in new folders but where it makes one
-abbrev pub TaskLeavesRest : Task → Scene → Scene → Type 0
-TaskLeavesRest task old new =
-    (task_reads_input task ≡ false → new.typed ≡ old.typed) × (makes_folder task ≡ false → new.made ≡ old.made)
+-- what is left on standard input is as it was but where the operation reads it, and what was made in new folders but where it makes one
+abbrev pub OperationLeavesRest : Operation → Scene → Scene → Type 0
+OperationLeavesRest operation old new =
+    (operation_reads_input operation ≡ false → new.typed ≡ old.typed) × (makes_folder operation ≡ false → new.made ≡ old.made)
 
 -- ---- requests
 
@@ -181,11 +181,11 @@ IsSpared request scene = request.is_new ≡ true → IsMissing scene.files reque
 abbrev pub IsNotSpared : Request → Scene → Scene → Option Fault → Type 0
 IsNotSpared request old new fault = (request.is_new ≡ true) × (fault ≡ Some CannotWrite) × HasRefused new × KeepsScene old new
 
--- how a request ends, and with which status: as its task, over older states where they are asked for, or since the name of an image that
+-- how a request ends, and with which status: as its operation, over older states where they are asked for, or since the name of an image that
 -- is to be new is taken
 pub record EndsRequest (request : Request) (old new : Scene) (status : ℕ) : Type 0 where
   pub fault : Option Fault
-  pub ends : (IsSpared request old × EndsTask request.task request.takes_older request.size request.image.now old new fault)
+  pub ends : (IsSpared request old × EndsOperation request.operation request.takes_older request.size request.image.now old new fault)
       ⊎ IsNotSpared request old new fault
   pub status_is : status ≡ status_of fault
-  pub rest : TaskLeavesRest request.task old new
+  pub rest : OperationLeavesRest request.operation old new

@@ -8,8 +8,8 @@ use Rattle.lfs_history.specs.History.{History}
 use Rattle.lfs_host.specs.Files.{Files, bytes_there}
 use Rattle.lfs_host.specs.Scene.{Scene, WasRefused}
 use Rattle.lfs_request.specs.declared.request.Request.{Request}
-use Rattle.lfs_request.specs.declared.task.Task.{Task}
-use Rattle.lfs_request.specs.declared.task.Task.TheVariants.{Extract, Salvage}
+use Rattle.lfs_request.specs.declared.operation.Operation.{Operation}
+use Rattle.lfs_request.specs.declared.operation.Operation.TheVariants.{Extract, Salvage}
 use Rattle.lfs_step.specs.declared.step.Step.{Step}
 use Rattle.lfs_step.specs.Runs.{GoesOn}
 use Rattle.lfs_serve.specs.Program.{BecomesStep, EndsRequest}
@@ -43,21 +43,21 @@ AreServed size name (s ∷ ss) old new = (mid : Files) × IsServedOn size name s
 
 -- ---- where they lead
 
--- where a task leads that was done: as the step that it becomes; a folder that is made leaves the history
-abbrev pub TaskGoes : ℕ → Task → Scene → History → History → Type 0
-TaskGoes size (Extract dir path view) s old new = new ≡ old
-TaskGoes size (Salvage dir view) s old new = new ≡ old
-TaskGoes size task s old new = (step : Step) × BecomesStep task size s step × GoesOn size step old new
+-- where an operation leads that was done: as the step that it becomes; a folder that is made leaves the history
+abbrev pub OperationGoes : ℕ → Operation → Scene → History → History → Type 0
+OperationGoes size (Extract dir path view) s old new = new ≡ old
+OperationGoes size (Salvage dir view) s old new = new ≡ old
+OperationGoes size operation s old new = (step : Step) × BecomesStep operation size s step × GoesOn size step old new
 
 -- one that wasn't done leaves the history
-abbrev pub TaskGoesBy : Option Fault → ℕ → Task → Scene → History → History → Type 0
-TaskGoesBy None size task s old new = TaskGoes size task s old new
-TaskGoesBy (Some fault) size task s old new = new ≡ old
+abbrev pub OperationGoesBy : Option Fault → ℕ → Operation → Scene → History → History → Type 0
+OperationGoesBy None size operation s old new = OperationGoes size operation s old new
+OperationGoesBy (Some fault) size operation s old new = new ≡ old
 
 -- where a request leads, by the fault that its status tells
 abbrev pub RequestGoes : ℕ → Served → History → History → Type 0
 RequestGoes size s old new =
-    (fault : Option Fault) × (s.status ≡ status_of fault) × TaskGoesBy fault size s.request.task s.old old new
+    (fault : Option Fault) × (s.status ≡ status_of fault) × OperationGoesBy fault size s.request.operation s.old old new
 
 -- The host refused the new image its place, where the new journal had got its own: the image is the one that was there. The next
 -- request that reads the journal is told so, and `forget` keeps that image. Only where a new image was to replace it, with as many

@@ -7,10 +7,10 @@ ghost use Rattle.lfs_history.specs.Meaning.{step_of};
 ghost use Rattle.lfs_history.specs.Taking.{KeepsInRange, MayKeep};
 ghost use Rattle.lfs_host.specs.Scene.{KeepsOutput};
 ghost use Rattle.lfs_report.specs.Stop.{stopped_by};
-ghost use Rattle.lfs_request.specs.declared.task.Task.TheVariants.{Batch};
+ghost use Rattle.lfs_request.specs.declared.operation.Operation.TheVariants.{Batch};
 ghost use Rattle.lfs_serve.specs.Batching.{BecomesOf, IsRefusedLine, KeepInRange, LinesKeep, MayBeOne, ReadsScript, SaysNoSteps, TakesText, as_asked};
 ghost use Rattle.lfs_serve.specs.Lines.{EndsLines};
-ghost use Rattle.lfs_serve.specs.Program.{EndsTask, TaskLeavesRest, task_reads_input};
+ghost use Rattle.lfs_serve.specs.Program.{EndsOperation, OperationLeavesRest, operation_reads_input};
 ghost use Rattle.lfs_texts.specs.Script.{SaysLine, asking_lines};
 
 use crate::line_moves::{commands_of, moves_of, read_lines};
@@ -36,9 +36,9 @@ pub(crate) fn batched<H: Host>(
     one: bool,
 ) -> Result<(), Stop>
     requires { MayKeep keep }
-    ensures ended { EndsTask (Batch file.entry keep one) request.now.takes_older request.now.size request.now.image.now
+    ensures ended { EndsOperation (Batch file.entry keep one) request.now.takes_older request.now.size request.now.image.now
         (H.known host.old) (H.known host.new) (stopped_by result) }
-    ensures rest { TaskLeavesRest (Batch file.entry keep one) (H.known host.old) (H.known host.new) }
+    ensures rest { OperationLeavesRest (Batch file.entry keep one) (H.known host.old) (H.known host.new) }
 {
     let text = script_text(alloc, host, file)?;
     let end = text_batched(alloc, host, request, context, &text, keep, one);
@@ -64,7 +64,7 @@ fn lined(
 fn script_text<H: Host>(alloc: Global, host: &mut H, file: Option<&str>) -> Result<Vec<u8>, Fault>
     ensures text { IfOk result (λ text. ReadsScript file.entry (H.known host.old) text.items) }
     ensures refused { IfErr result (IsUnread (H.known host.new)) }
-    ensures unread { (keep : Option ℕ) → (one : Bool) → task_reads_input (Batch file.entry keep one) ≡ false
+    ensures unread { (keep : Option ℕ) → (one : Bool) → operation_reads_input (Batch file.entry keep one) ≡ false
         → (H.known host.new).typed ≡ (H.known host.old).typed }
     ensures kept { KeepsOutput (H.known host.old) (H.known host.new) }
 {
@@ -98,7 +98,7 @@ fn text_batched<H: Host>(
     }
 }
 
-/// What the lines of a script say, which are commands alone where they are to be one change; or the first that is refused.
+/// What the lines of a script report_pieces, which are commands alone where they are to be one change; or the first that is refused.
 fn lines_said<'a>(
     alloc: Global,
     script: &'a Script<'_>,

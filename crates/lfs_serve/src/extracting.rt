@@ -72,7 +72,14 @@ fn extract_bytes<H: Host>(
     let mut place = None;
     match extract_image(alloc, host, &image, path, &mut place, dir) {
         Ok(()) => Ok(()),
-        Err(fault) => Err(stop_of_extracting(alloc, &request.task, fault, image, place, context)),
+        Err(fault) => Err(stop_of_extracting(
+            alloc,
+            &request.operation,
+            fault,
+            image,
+            place,
+            context,
+        )),
     }
 }
 

@@ -11,7 +11,7 @@ mod line_moves;
 mod new_image;
 mod opened;
 mod packing;
-mod plain_tasks;
+mod plain_operations;
 mod read_by;
 mod repacking;
 mod salvaging;
@@ -19,7 +19,7 @@ mod seeing;
 mod serving;
 mod sizing;
 mod stepping;
-mod tree_tasks;
+mod tree_operations;
 
 pub use laws::requests_lead_on;
 pub use serving::served;

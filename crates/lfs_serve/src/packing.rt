@@ -3,8 +3,8 @@
 ghost use Rattle.std.specs.Prelude.{◌≡◌};
 ghost use Rattle.lfs_fs.specs.Superblock.{IsLimits};
 ghost use Rattle.lfs_report.specs.Stop.{stopped_by};
-ghost use Rattle.lfs_request.specs.declared.task.Task.TheVariants.{Pack};
-ghost use Rattle.lfs_serve.specs.Program.{EndsTask, TaskLeavesRest};
+ghost use Rattle.lfs_request.specs.declared.operation.Operation.TheVariants.{Pack};
+ghost use Rattle.lfs_serve.specs.Program.{EndsOperation, OperationLeavesRest};
 
 use crate::host_folder::{folder_of, pack_rows};
 use crate::least::counted;
@@ -29,9 +29,9 @@ pub(crate) fn packed<H: Host>(
     dir: &str,
 ) -> Result<(), Stop>
     requires { IsLimits limits }
-    ensures ended { EndsTask (Pack extent limits dir.entry) request.now.takes_older request.now.size request.now.image.now
+    ensures ended { EndsOperation (Pack extent limits dir.entry) request.now.takes_older request.now.size request.now.image.now
         (H.known host.old) (H.known host.new) (stopped_by result) }
-    ensures rest { TaskLeavesRest (Pack extent limits dir.entry) (H.known host.old) (H.known host.new) }
+    ensures rest { OperationLeavesRest (Pack extent limits dir.entry) (H.known host.old) (H.known host.new) }
 {
     let folder = folder_of(alloc, host, dir)?;
     let rows = pack_rows(alloc, &folder)?;

@@ -2,8 +2,8 @@
 
 ghost use Rattle.lfs_report.specs.Stop.{stopped_by};
 ghost use Rattle.lfs_request.specs.SaidLimits.{AreSaidInRange};
-ghost use Rattle.lfs_request.specs.declared.task.Task.TheVariants.{Repack};
-ghost use Rattle.lfs_serve.specs.Program.{EndsTask, TaskLeavesRest};
+ghost use Rattle.lfs_request.specs.declared.operation.Operation.TheVariants.{Repack};
+ghost use Rattle.lfs_serve.specs.Program.{EndsOperation, OperationLeavesRest};
 
 use crate::least::counted_for;
 use crate::opened::open_source;
@@ -28,9 +28,9 @@ pub(crate) fn repacked<H: Host>(
     limits: SaidLimits,
 ) -> Result<(), Stop>
     requires { AreSaidInRange limits }
-    ensures ended { EndsTask (Repack source.now extent limits) request.now.takes_older request.now.size request.now.image.now
+    ensures ended { EndsOperation (Repack source.now extent limits) request.now.takes_older request.now.size request.now.image.now
         (H.known host.old) (H.known host.new) (stopped_by result) }
-    ensures rest { TaskLeavesRest (Repack source.now extent limits) (H.known host.old) (H.known host.new) }
+    ensures rest { OperationLeavesRest (Repack source.now extent limits) (H.known host.old) (H.known host.new) }
 {
     let handed = taken_up(alloc, host, StepKind::Makes, 0, request.image)?;
     let opened = open_source(alloc, host, context, source)?;

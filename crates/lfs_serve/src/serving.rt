@@ -2,34 +2,34 @@
 
 ghost use Rattle.std.specs.Prelude.{◌⊎◌};
 ghost use Rattle.lfs_report.specs.Stop.{stopped_by};
-ghost use Rattle.lfs_request.specs.Task.{IsTaskInRange};
-ghost use Rattle.lfs_serve.specs.Program.{EndsRequest, EndsTask, IsNotSpared, IsSpared, TaskLeavesRest};
+ghost use Rattle.lfs_request.specs.Operation.{IsOperationInRange};
+ghost use Rattle.lfs_serve.specs.Program.{EndsRequest, EndsOperation, IsNotSpared, IsSpared, OperationLeavesRest};
 
 use crate::batching::batched;
 use crate::extracting::extracted;
 use crate::packing::packed;
-use crate::plain_tasks::{changed, forgotten, formatted, queried};
+use crate::plain_operations::{changed, forgotten, formatted, queried};
 use crate::repacking::repacked;
 use crate::salvaging::salvaged;
-use crate::tree_tasks::tree_changed;
+use crate::tree_operations::tree_changed;
 use lfs_exchange::spare;
 use lfs_host::Host;
-use lfs_report::{Context, Stop, tell_end, tell_later, tell_within};
-use lfs_request::{Request, Task};
+use lfs_report::{Context, Stop, report_end, report_later, report_within};
+use lfs_request::{Operation, Request};
 use std::alloc::Global;
 
 /// Does what is asked for, and answers the status that the program ends with. A fault is told on standard error, with what is known of
 /// it beside. Commits of a later disk version in what is read as an image are refused with `Version`, or told of where the request
 /// takes the state before them. Takes memory.
 pub fn served<H: Host>(alloc: Global, host: &mut H, request: &Request<'_>) -> u8
-    requires { IsTaskInRange request.now.task }
+    requires { IsOperationInRange request.now.operation }
     ensures ended { EndsRequest request.now (H.known host.old) (H.known host.new) result }
 {
     let mut context = Context::new(alloc);
     let end = asked(alloc, host, request, &mut context);
-    let status = tell_end(host, request, &end, &context);
-    tell_later(host, request, context.later);
-    tell_within(host, request);
+    let status = report_end(host, request, &end, &context);
+    report_later(host, request, context.later);
+    report_within(host, request);
     status
 }
 
@@ -40,55 +40,55 @@ fn asked<H: Host>(
     request: &Request<'_>,
     context: &mut Context,
 ) -> Result<(), Stop>
-    requires { IsTaskInRange request.now.task }
-    ensures ended { (IsSpared request.now (H.known host.old) × EndsTask request.now.task request.now.takes_older request.now.size request.now.image.now
+    requires { IsOperationInRange request.now.operation }
+    ensures ended { (IsSpared request.now (H.known host.old) × EndsOperation request.now.operation request.now.takes_older request.now.size request.now.image.now
         (H.known host.old) (H.known host.new) (stopped_by result))
         ⊎ IsNotSpared request.now (H.known host.old) (H.known host.new) (stopped_by result) }
-    ensures rest { TaskLeavesRest request.now.task (H.known host.old) (H.known host.new) }
+    ensures rest { OperationLeavesRest request.now.operation (H.known host.old) (H.known host.new) }
 {
     spare(host, request.is_new, request.image)?;
     done(alloc, host, request, context)
 }
 
-/// Does the task that is asked for.
+/// Does the operation that is asked for.
 fn done<H: Host>(
     alloc: Global,
     host: &mut H,
     request: &Request<'_>,
     context: &mut Context,
 ) -> Result<(), Stop>
-    requires { IsTaskInRange request.now.task }
-    ensures ended { EndsTask request.now.task request.now.takes_older request.now.size request.now.image.now
+    requires { IsOperationInRange request.now.operation }
+    ensures ended { EndsOperation request.now.operation request.now.takes_older request.now.size request.now.image.now
         (H.known host.old) (H.known host.new) (stopped_by result) }
-    ensures rest { TaskLeavesRest request.now.task (H.known host.old) (H.known host.new) }
+    ensures rest { OperationLeavesRest request.now.operation (H.known host.old) (H.known host.new) }
 {
-    match &request.task {
-        Task::Format { count, limits } => {
+    match &request.operation {
+        Operation::Format { count, limits } => {
             formatted(alloc, host, request, context, *count, *limits)
         }
-        Task::Pack {
+        Operation::Pack {
             extent,
             limits,
             dir,
         } => packed(alloc, host, request, context, *extent, *limits, *dir),
-        Task::Repack {
+        Operation::Repack {
             source,
             extent,
             limits,
         } => repacked(alloc, host, request, context, source, *extent, *limits),
-        Task::Extract { dir, path, view } => {
+        Operation::Extract { dir, path, view } => {
             extracted(alloc, host, request, context, *view, *path, *dir)
         }
-        Task::Salvage { dir, view } => salvaged(alloc, host, request, context, *view, *dir),
-        Task::Ask { query, form, view } => {
+        Operation::Salvage { dir, view } => salvaged(alloc, host, request, context, *view, *dir),
+        Operation::Ask { query, form, view } => {
             queried(alloc, host, request, context, query, *form, *view)
         }
-        Task::Forget => forgotten(alloc, host, request, context),
-        Task::Change(step) => changed(alloc, host, request, context, step),
-        Task::Tree { change, keep } => {
+        Operation::Forget => forgotten(alloc, host, request, context),
+        Operation::Change(step) => changed(alloc, host, request, context, step),
+        Operation::Tree { change, keep } => {
             tree_changed(alloc, host, request, context, change, *keep)
         }
-        Task::Batch { file, keep, one } => {
+        Operation::Batch { file, keep, one } => {
             batched(alloc, host, request, context, *file, *keep, *one)
         }
     }

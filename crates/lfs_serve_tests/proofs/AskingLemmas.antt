@@ -9,10 +9,10 @@ use Rattle.lfs_request.specs.declared.query.Query.TheVariants as query
 use Rattle.lfs_step.specs.declared.step.Step.{Step}
 use Rattle.lfs_step.specs.declared.step.Step.TheVariants.{Ask}
 use Rattle.lfs_request.specs.Query.{Question}
-use Rattle.lfs_request.specs.Task.{IsTaskInRange}
+use Rattle.lfs_request.specs.Operation.{IsOperationInRange}
 use Rattle.lfs_request.specs.declared.request.Request.{Request}
-use Rattle.lfs_request.specs.declared.task.Task.{Task}
-use Rattle.lfs_request.specs.declared.task.Task.TheVariants as task
+use Rattle.lfs_request.specs.declared.operation.Operation.{Operation}
+use Rattle.lfs_request.specs.declared.operation.Operation.TheVariants as operation
 use Rattle.lfs_exchange.specs.declared.step_kind.StepKind.{StepKind}
 use Rattle.lfs_exchange.specs.declared.step_kind.StepKind.TheVariants.{Asks, Recounts}
 use Rattle.lfs_host.specs.Files.{Files}
@@ -20,7 +20,7 @@ use Rattle.lfs_serve.specs.StepKind.{kind_of}
 use Rattle.lfs_exchange.specs.Storing.{LeavesFiles, SparesFiles}
 use Rattle.lfs_serve_tests.specs.Asking.{OnlyAsks}
 use Rattle.lfs_host.specs.Scene.{Scene}
-use Rattle.lfs_serve.specs.Program.{EndsRequest, EndsStep, EndsTask, manner_of}
+use Rattle.lfs_serve.specs.Program.{EndsRequest, EndsStep, EndsOperation, manner_of}
 
 -- where the host refused something behind what asks, all files stay
 all_spared : (fault : Fault) (kind : StepKind) (placed : Option Bool) (old new : Option Files) (name : List ℕ) (o : Outcome) → (kind ≡ Asks) ⊎ (kind ≡ Recounts)
@@ -62,28 +62,28 @@ step_keeps (Some fault) step manner size name old new asks (inr (inl (why, keeps
 step_keeps (Some fault) step manner size name old new asks (inr (inr (unwritten, (answered, complete, o, runs, spares)))) =
     all_spared fault (kind_of step) new.has_refused_place old.files new.files name o asks spares
 
-task_keeps : (fault : Option Fault) (t : Task) (older : Bool) (size : ℕ) (name : List ℕ) (old new : Scene) → OnlyAsks t
-    → EndsTask t older size name old new fault → new.files ≡ old.files
-task_keeps fault (task.Ask query form view) older size name old new asks (inl (Ask question said, becomes, ends)) =
-    step_keeps fault (Ask question said) (manner_of (task.Ask query form view) older) size name old new (asks_of question said) ends
-task_keeps fault (task.Ask query form view) older size name old new asks (inl (_, becomes, ends)) = absurd becomes
-task_keeps fault (task.Ask query form view) older size name old new asks (inr (keeps, why)) = keeps.0
-task_keeps fault (task.Extract dir path view) older size name old new asks ends = ends.0.0
-task_keeps fault (task.Salvage dir view) older size name old new asks ends = ends.0.0
-task_keeps fault _ older size name old new only ends = absurd only
+operation_keeps : (fault : Option Fault) (t : Operation) (older : Bool) (size : ℕ) (name : List ℕ) (old new : Scene) → OnlyAsks t
+    → EndsOperation t older size name old new fault → new.files ≡ old.files
+operation_keeps fault (operation.Ask query form view) older size name old new asks (inl (Ask question said, becomes, ends)) =
+    step_keeps fault (Ask question said) (manner_of (operation.Ask query form view) older) size name old new (asks_of question said) ends
+operation_keeps fault (operation.Ask query form view) older size name old new asks (inl (_, becomes, ends)) = absurd becomes
+operation_keeps fault (operation.Ask query form view) older size name old new asks (inr (keeps, why)) = keeps.0
+operation_keeps fault (operation.Extract dir path view) older size name old new asks ends = ends.0.0
+operation_keeps fault (operation.Salvage dir view) older size name old new asks ends = ends.0.0
+operation_keeps fault _ older size name old new only ends = absurd only
 
 -- a request that asks changes no file
-pub asking_keeps : (request : Request) (old new : Scene) (status : ℕ) → OnlyAsks request.task → EndsRequest request old new status
+pub asking_keeps : (request : Request) (old new : Scene) (status : ℕ) → OnlyAsks request.operation → EndsRequest request old new status
     → new.files ≡ old.files
 asking_keeps request old new status only is =
     elim is.ends [
-      | inl (spared, ends) ↦ task_keeps is.fault request.task request.takes_older request.size request.image.now old new only ends
+      | inl (spared, ends) ↦ operation_keeps is.fault request.operation request.takes_older request.size request.image.now old new only ends
       | inr taken ↦ taken.3.0
     ]
 
 -- and its caller owes nothing more
-pub asking_in_range : (t : Task) → OnlyAsks t → IsTaskInRange t
-asking_in_range (task.Ask query form view) only = tt
-asking_in_range (task.Extract dir path view) only = tt
-asking_in_range (task.Salvage dir view) only = tt
+pub asking_in_range : (t : Operation) → OnlyAsks t → IsOperationInRange t
+asking_in_range (operation.Ask query form view) only = tt
+asking_in_range (operation.Extract dir path view) only = tt
+asking_in_range (operation.Salvage dir view) only = tt
 asking_in_range _ only = absurd only

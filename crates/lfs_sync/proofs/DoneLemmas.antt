@@ -96,16 +96,16 @@ pub other_longer : (p : Path) (n : Name) → same_path (p ++ n ∷ []) p ≡ fal
 other_longer p n = other_itself (p ++ n ∷ []) p (below_longer p n)
 
 -- what lies below two paths that begin alike
-pub below_behind : (front p q : Path) → below (front ++ p) (front ++ q) ≡ below p q
+pub below_behind : (prefix p q : Path) → below (prefix ++ p) (prefix ++ q) ≡ below p q
 below_behind [] p q = refl
-below_behind (n ∷ front) p q =
-    ap (λ (b : Bool). if b then below (front ++ p) (front ++ q) else None) ((bytes_eq-Decides n n).1 refl) ∙ below_behind front p q
+below_behind (n ∷ prefix) p q =
+    ap (λ (b : Bool). if b then below (prefix ++ p) (prefix ++ q) else None) ((bytes_eq-Decides n n).1 refl) ∙ below_behind prefix p q
 
 -- what isn't below a path isn't below a longer one
-pub outside_longer : (front more path : Path) → below front path ≡ None → below (front ++ more) path ≡ None
-outside_longer front more path outside = elim (below_cases (front ++ more) path) [
+pub outside_longer : (prefix more path : Path) → below prefix path ≡ None → below (prefix ++ more) path ≡ None
+outside_longer prefix more path outside = elim (below_cases (prefix ++ more) path) [
   | inl none ↦ none
-  | inr (rest, is) ↦ absurd (below_none front path (more ++ rest) outside (is ∙ append_assoc front more rest))
+  | inr (rest, is) ↦ absurd (below_none prefix path (more ++ rest) outside (is ∙ append_assoc prefix more rest))
 ]
 
 pub same_itself : (p : Path) → same_path p p ≡ true
@@ -119,8 +119,8 @@ other_by p q other = by (same_path p q) (same_path_decides p q)
     by true decides = absurd (other (decides.0 refl))
     by false decides = refl
 
-pub other_front : (to path : Path) → below path to ≡ None → same_path to path ≡ false
-other_front to path outside =
+pub other_prefix : (to path : Path) → below path to ≡ None → same_path to path ≡ false
+other_prefix to path outside =
     other_by to path (λ same. below_none path to [] outside (same ∙ sym (append-nil path)))
 
 pub other_below : (to path : Path) (m : Name) (rest : Path) → to ≡ path ++ m ∷ rest → same_path to path ≡ false

@@ -40,11 +40,11 @@ module _ (d : Disk) (m : MountedValue) (is : IsMountOf d m) where
   same_directory p = ap (λ (o : Option Entry). is_directory (option_map node o)) (outline_at p) ∙ directory_kind (entry_at is.volume p)
 
   -- the same directories lack
-  pub same_lacking : (front ns : Path) → lacking (tree m.outline) front ns ≡ lacking (tree is.volume) front ns
-  same_lacking front [] = refl
-  same_lacking front (n ∷ []) = refl
-  same_lacking front (n ∷ k ∷ ns) =
-      ap (λ (b : Bool). if b then lacking (tree m.outline) (front ++ n ∷ []) (k ∷ ns)
-      else Mkdir (front ++ n ∷ []) ∷ lacking (tree m.outline) (front ++ n ∷ []) (k ∷ ns)) (same_some (front ++ n ∷ []))
-      ∙ ap (λ (l : List Command). if is_some (tree is.volume (front ++ n ∷ [])) then l else Mkdir (front ++ n ∷ []) ∷ l)
-      (same_lacking (front ++ n ∷ []) (k ∷ ns))
+  pub same_lacking : (prefix ns : Path) → lacking (tree m.outline) prefix ns ≡ lacking (tree is.volume) prefix ns
+  same_lacking prefix [] = refl
+  same_lacking prefix (n ∷ []) = refl
+  same_lacking prefix (n ∷ k ∷ ns) =
+      ap (λ (b : Bool). if b then lacking (tree m.outline) (prefix ++ n ∷ []) (k ∷ ns)
+      else Mkdir (prefix ++ n ∷ []) ∷ lacking (tree m.outline) (prefix ++ n ∷ []) (k ∷ ns)) (same_some (prefix ++ n ∷ []))
+      ∙ ap (λ (l : List Command). if is_some (tree is.volume (prefix ++ n ∷ [])) then l else Mkdir (prefix ++ n ∷ []) ∷ l)
+      (same_lacking (prefix ++ n ∷ []) (k ∷ ns))

@@ -1,4 +1,4 @@
--- Parents that lack, front by front.
+-- Parents that lack, prefix by prefix.
 use Rattle.std.proofs.Common.{◌≡◌, ℕ, ◌+◌, ◌-◌, ◌<◌, ◌≤◌, Bool, true, false, not, List, [], ◌∷◌, ◌++◌, Bor, Option, length, drop, take}
 use Rattle.std.proofs.Common.{get_or, refl, ap, sym, subst, ◌∙◌, arith, add-one, drop-cons, append-nil}
 use Rattle.std.specs.Prelude.{if◌then◌else◌, is_some}
@@ -15,16 +15,16 @@ use Rattle.lfs_sync.specs.declared.planned.Planned.{Planned}
 use Rattle.lfs_sync.specs.declared.sync_row.SyncRow.{SyncRow}
 use Rattle.lfs_sync.proofs.MergeLemmas.{further}
 
--- ---- one front more
+-- ---- one prefix more
 
 lacking_by : (b : Bool) (c : Command) (cs : List Command) → (if b then cs else c ∷ cs) ≡ if_so (not b) c ++ cs
 lacking_by true c cs = refl
 lacking_by false c cs = refl
 
-lacking_first : (tree : Path → Option Node) (front : Path) (n m : Name) (ns : Path) → lacking tree front (n ∷ m ∷ ns)
-    ≡ if_so (not (is_some (tree (front ++ n ∷ [])))) (Mkdir (front ++ n ∷ [])) ++ lacking tree (front ++ n ∷ []) (m ∷ ns)
-lacking_first tree front n m ns =
-    lacking_by (is_some (tree (front ++ n ∷ []))) (Mkdir (front ++ n ∷ [])) (lacking tree (front ++ n ∷ []) (m ∷ ns))
+lacking_first : (tree : Path → Option Node) (prefix : Path) (n m : Name) (ns : Path) → lacking tree prefix (n ∷ m ∷ ns)
+    ≡ if_so (not (is_some (tree (prefix ++ n ∷ [])))) (Mkdir (prefix ++ n ∷ [])) ++ lacking tree (prefix ++ n ∷ []) (m ∷ ns)
+lacking_first tree prefix n m ns =
+    lacking_by (is_some (tree (prefix ++ n ∷ []))) (Mkdir (prefix ++ n ∷ [])) (lacking tree (prefix ++ n ∷ []) (m ∷ ns))
 
 rest_at : (ns : Path) (i : ℕ) → i < length ns → drop i ns ≡ get_or ns i [] ∷ drop (i + 1) ns
 rest_at ns i within = drop-cons ns i [] within ∙ ap (λ (k : ℕ). get_or ns i [] ∷ drop k ns) (sym (add-one i))
@@ -42,7 +42,7 @@ lacking_here tree ns i within =
     ∙ ap (λ (p : Path). if_so (not (is_some (tree p))) (Mkdir p) ++ lacking tree p (m ∷ rest)) (sym longer)
     ∙ ap (λ (l : Path). if_so (not (is_some (tree (take (i + 1) ns)))) (Mkdir (take (i + 1) ns)) ++ lacking tree (take (i + 1) ns) l) (sym second)
 
--- what is planned so far, and what lacks behind the front that has one name less
+-- what is planned so far, and what lacks behind the prefix that has one name less
 abbrev pub IsAt : (Path → Option Node) → Path → List SyncRow → List Planned → ℕ → Type 0
 IsAt tree ns rows plan k =
     plan_asked rows plan ++ in_texts (lacking tree (take (k - 1) ns) (drop (k - 1) ns)) ≡ in_texts (lacking tree [] ns)
@@ -64,10 +64,10 @@ parent_further tree ns rows old new k some' within way adds =
 
 -- ---- the end
 
-none_lacks : (tree : Path → Option Node) (front ns : Path) → length ns ≤ 1 → lacking tree front ns ≡ []
-none_lacks tree front [] short = refl
-none_lacks tree front (n ∷ []) short = refl
-none_lacks tree front (n ∷ m ∷ ns) short = absurd (omega arith)
+none_lacks : (tree : Path → Option Node) (prefix ns : Path) → length ns ≤ 1 → lacking tree prefix ns ≡ []
+none_lacks tree prefix [] short = refl
+none_lacks tree prefix (n ∷ []) short = refl
+none_lacks tree prefix (n ∷ m ∷ ns) short = absurd (omega arith)
 
 pub parents_end : (tree : Path → Option Node) (ns : Path) (rows : List SyncRow) (plan : List Planned) (k : ℕ) → 1 ≤ k → length ns ≤ k
     → IsAt tree ns rows plan k → plan_asked rows plan ≡ in_texts (lacking tree [] ns)

@@ -71,12 +71,12 @@ pub remove_named : (at : Path) (held : List Shown) → All IsName at → AreName
 remove_named [] held names named = one_command (Rm []) (one_path [] names)
 remove_named (n ∷ at) held names named = remove_by_named (n ∷ at) held names named
 
-lacking_named : (tree : Path → Option Node) (front ns : Path) → All IsName (front ++ ns) → All HasNames (lacking tree front ns)
-lacking_named tree front [] names = All-nil HasNames
-lacking_named tree front (n ∷ []) names = All-nil HasNames
-lacking_named tree front (n ∷ m ∷ ns) names =
-    let first : Path = front ++ n ∷ [] in
-    let complete : All IsName (first ++ m ∷ ns) = subst (All IsName) (sym (append_assoc front (n ∷ []) (m ∷ ns))) names in
+lacking_named : (tree : Path → Option Node) (prefix ns : Path) → All IsName (prefix ++ ns) → All HasNames (lacking tree prefix ns)
+lacking_named tree prefix [] names = All-nil HasNames
+lacking_named tree prefix (n ∷ []) names = All-nil HasNames
+lacking_named tree prefix (n ∷ m ∷ ns) names =
+    let first : Path = prefix ++ n ∷ [] in
+    let complete : All IsName (first ++ m ∷ ns) = subst (All IsName) (sym (append_assoc prefix (n ∷ []) (m ∷ ns))) names in
     by (is_some (tree first)) first (All-left IsName first (m ∷ ns) complete) (lacking_named tree first (m ∷ ns) complete)
   where
     by : (b : Bool) (first : Path) → All IsName first → All HasNames (lacking tree first (m ∷ ns))

@@ -17,19 +17,19 @@ use Rattle.lfs_law.proofs.PathMapLemmas.{below_longer, below_some, same_path_dec
 use Rattle.lfs_sync.specs.Synced.{equations_of, lacking, with_file, with_parents, with_parents_by}
 use Rattle.lfs_sync.specs.SyncLaws.{IsRooted, MadeIsWithParents, PutIsWithFile}
 use Rattle.lfs_sync.proofs.DoneLemmas.{IsSimple, below_behind, done_all, done_append, done_is, simple_append}
-use Rattle.lfs_sync.proofs.DoneLemmas.{other_below, other_front, other_itself, other_longer, other_outside, outside_longer, same_behind}
+use Rattle.lfs_sync.proofs.DoneLemmas.{other_below, other_prefix, other_itself, other_longer, other_outside, outside_longer, same_behind}
 use Rattle.lfs_sync.proofs.DoneLemmas.{same_itself}
 
 -- ---- the directories that lack
 
-lacking_simple : (tree : Path → Option Node) (front ns : Path) → AllByRecursion IsSimple (lacking tree front ns)
-lacking_simple tree front [] = tt
-lacking_simple tree front (n ∷ []) = tt
-lacking_simple tree front (n ∷ m ∷ ns) = by (is_some (tree (front ++ n ∷ []))) (lacking_simple tree (front ++ n ∷ []) (m ∷ ns))
+lacking_simple : (tree : Path → Option Node) (prefix ns : Path) → AllByRecursion IsSimple (lacking tree prefix ns)
+lacking_simple tree prefix [] = tt
+lacking_simple tree prefix (n ∷ []) = tt
+lacking_simple tree prefix (n ∷ m ∷ ns) = by (is_some (tree (prefix ++ n ∷ []))) (lacking_simple tree (prefix ++ n ∷ []) (m ∷ ns))
   where
-    by : (b : Bool) → AllByRecursion IsSimple (lacking tree (front ++ n ∷ []) (m ∷ ns))
-        → AllByRecursion IsSimple (if b then lacking tree (front ++ n ∷ []) (m ∷ ns)
-        else Mkdir (front ++ n ∷ []) ∷ lacking tree (front ++ n ∷ []) (m ∷ ns))
+    by : (b : Bool) → AllByRecursion IsSimple (lacking tree (prefix ++ n ∷ []) (m ∷ ns))
+        → AllByRecursion IsSimple (if b then lacking tree (prefix ++ n ∷ []) (m ∷ ns)
+        else Mkdir (prefix ++ n ∷ []) ∷ lacking tree (prefix ++ n ∷ []) (m ∷ ns))
     by true later = later
     by false later = (tt, later)
 
@@ -39,34 +39,34 @@ one_elsewhere : (b : Bool) (p path : Path) (cs : List Command) (old : Option Nod
 one_elsewhere true p path cs old other = refl
 one_elsewhere false p path cs old other = ap (λ (c : Bool). done_all path cs (if c then Some (Dir []) else old)) other
 
-lacking_outside : (tree : Path → Option Node) (front ns path : Path) (old : Option Node) → below front path ≡ None
-    → done_all path (lacking tree front ns) old ≡ old
-lacking_outside tree front [] path old outside = refl
-lacking_outside tree front (n ∷ []) path old outside = refl
-lacking_outside tree front (n ∷ m ∷ ns) path old outside =
-    one_elsewhere (is_some (tree (front ++ n ∷ []))) (front ++ n ∷ []) path (lacking tree (front ++ n ∷ []) (m ∷ ns)) old
-    (other_outside front (n ∷ []) path outside)
-    ∙ lacking_outside tree (front ++ n ∷ []) (m ∷ ns) path old (outside_longer front (n ∷ []) path outside)
+lacking_outside : (tree : Path → Option Node) (prefix ns path : Path) (old : Option Node) → below prefix path ≡ None
+    → done_all path (lacking tree prefix ns) old ≡ old
+lacking_outside tree prefix [] path old outside = refl
+lacking_outside tree prefix (n ∷ []) path old outside = refl
+lacking_outside tree prefix (n ∷ m ∷ ns) path old outside =
+    one_elsewhere (is_some (tree (prefix ++ n ∷ []))) (prefix ++ n ∷ []) path (lacking tree (prefix ++ n ∷ []) (m ∷ ns)) old
+    (other_outside prefix (n ∷ []) path outside)
+    ∙ lacking_outside tree (prefix ++ n ∷ []) (m ∷ ns) path old (outside_longer prefix (n ∷ []) path outside)
 
-lacking_itself : (tree : Path → Option Node) (front ns : Path) (old : Option Node) → done_all front (lacking tree front ns) old ≡ old
-lacking_itself tree front [] old = refl
-lacking_itself tree front (n ∷ []) old = refl
-lacking_itself tree front (n ∷ m ∷ ns) old =
-    one_elsewhere (is_some (tree (front ++ n ∷ []))) (front ++ n ∷ []) front (lacking tree (front ++ n ∷ []) (m ∷ ns)) old
-    (other_longer front n)
-    ∙ lacking_outside tree (front ++ n ∷ []) (m ∷ ns) front old (below_longer front n)
+lacking_itself : (tree : Path → Option Node) (prefix ns : Path) (old : Option Node) → done_all prefix (lacking tree prefix ns) old ≡ old
+lacking_itself tree prefix [] old = refl
+lacking_itself tree prefix (n ∷ []) old = refl
+lacking_itself tree prefix (n ∷ m ∷ ns) old =
+    one_elsewhere (is_some (tree (prefix ++ n ∷ []))) (prefix ++ n ∷ []) prefix (lacking tree (prefix ++ n ∷ []) (m ∷ ns)) old
+    (other_longer prefix n)
+    ∙ lacking_outside tree (prefix ++ n ∷ []) (m ∷ ns) prefix old (below_longer prefix n)
 
--- what is made of a front: nothing of the whole, and a directory where nothing is
+-- what is made of a prefix: nothing of the whole, and a directory where nothing is
 abbrev parent_by : Option Path → Option Node → Option Node → Option Node
 parent_by None here old = old
 parent_by (Some []) here old = old
 parent_by (Some (m ∷ rest)) (Some x) old = old
 parent_by (Some (m ∷ rest)) None old = Some (Dir [])
 
--- what lacks of a front is what is made of it
+-- what lacks of a prefix is what is made of it
 abbrev LacksAt : (Path → Option Node) → Path → Path → Path → Option Node → Type 0
-LacksAt tree front ns q old =
-    done_all (front ++ q) (lacking tree front ns) old ≡ parent_by (below q ns) (tree (front ++ q)) old
+LacksAt tree prefix ns q old =
+    done_all (prefix ++ q) (lacking tree prefix ns) old ≡ parent_by (below q ns) (tree (prefix ++ q)) old
 
 none_or_complete : (b : Bool) (here old : Option Node) → old ≡ parent_by (if b then Some [] else None) here old
 none_or_complete true here old = refl
@@ -91,22 +91,22 @@ and_false : (b : Bool) → (b && false) ≡ false
 and_false true = refl
 and_false false = refl
 
-module _ (tree : Path → Option Node) (front : Path) (n m : Name) (ns : Path) (old : Option Node) where
+module _ (tree : Path → Option Node) (prefix : Path) (n m : Name) (ns : Path) (old : Option Node) where
   abbrev first : Path
-  first = front ++ n ∷ []
+  first = prefix ++ n ∷ []
 
   abbrev later : List Command
   later = lacking tree first (m ∷ ns)
 
   -- a path with another name
-  other_name : (k : Name) (q : Path) → (n ≡ k → ⊥) → LacksAt tree front (n ∷ m ∷ ns) (k ∷ q) old
+  other_name : (k : Name) (q : Path) → (n ≡ k → ⊥) → LacksAt tree prefix (n ∷ m ∷ ns) (k ∷ q) old
   other_name k q other =
-      let outside : below first (front ++ k ∷ q) ≡ None =
-      below_behind front (n ∷ []) (k ∷ q)
+      let outside : below first (prefix ++ k ∷ q) ≡ None =
+      below_behind prefix (n ∷ []) (k ∷ q)
       ∙ ap (λ (b : Bool). if b then Some q else None) (other_bytes (bytes_eq n k) n k other (bytes_eq-Decides n k).0) in
-      one_elsewhere (is_some (tree first)) first (front ++ k ∷ q) later old (other_itself first (front ++ k ∷ q) outside)
-      ∙ lacking_outside tree first (m ∷ ns) (front ++ k ∷ q) old outside
-      ∙ ap (λ (b : Bool). parent_by (if b then below q (m ∷ ns) else None) (tree (front ++ k ∷ q)) old)
+      one_elsewhere (is_some (tree first)) first (prefix ++ k ∷ q) later old (other_itself first (prefix ++ k ∷ q) outside)
+      ∙ lacking_outside tree first (m ∷ ns) (prefix ++ k ∷ q) old outside
+      ∙ ap (λ (b : Bool). parent_by (if b then below q (m ∷ ns) else None) (tree (prefix ++ k ∷ q)) old)
       (sym (other_bytes (bytes_eq k n) k n (λ same. other (sym same)) (bytes_eq-Decides k n).0))
 
   made_first : (here : Option Node) → tree first ≡ here
@@ -118,24 +118,24 @@ module _ (tree : Path → Option Node) (front : Path) (n m : Name) (ns : Path) (
 
   -- the first one
   same_name : (q : Path) → ((j : Name) (rest : Path) → LacksAt tree first (m ∷ ns) (j ∷ rest) old)
-      → LacksAt tree front (n ∷ m ∷ ns) (n ∷ q) old
+      → LacksAt tree prefix (n ∷ m ∷ ns) (n ∷ q) old
   same_name [] more =
       made_first (tree first) refl
       ∙ ap (λ (b : Bool). parent_by (if b then Some (m ∷ ns) else None) (tree first) old) (sym (same_bytes n))
   same_name (j ∷ rest) more =
-      one_elsewhere (is_some (tree first)) first (front ++ n ∷ j ∷ rest) later old
-      (same_behind front (n ∷ []) (n ∷ j ∷ rest) ∙ and_false (bytes_eq n n))
+      one_elsewhere (is_some (tree first)) first (prefix ++ n ∷ j ∷ rest) later old
+      (same_behind prefix (n ∷ []) (n ∷ j ∷ rest) ∙ and_false (bytes_eq n n))
       ∙ subst (λ (p : Path). done_all p later old ≡ parent_by (below (j ∷ rest) (m ∷ ns)) (tree p) old)
-      (append_assoc front (n ∷ []) (j ∷ rest)) (more j rest)
-      ∙ ap (λ (b : Bool). parent_by (if b then below (j ∷ rest) (m ∷ ns) else None) (tree (front ++ n ∷ j ∷ rest)) old) (sym (same_bytes n))
+      (append_assoc prefix (n ∷ []) (j ∷ rest)) (more j rest)
+      ∙ ap (λ (b : Bool). parent_by (if b then below (j ∷ rest) (m ∷ ns) else None) (tree (prefix ++ n ∷ j ∷ rest)) old) (sym (same_bytes n))
 
-lacks_at : (tree : Path → Option Node) (front ns : Path) (k : Name) (q : Path) (old : Option Node) → LacksAt tree front ns (k ∷ q) old
-lacks_at tree front [] k q old = refl
-lacks_at tree front (n ∷ []) k q old = last_by n k q (tree (front ++ k ∷ q)) old
-lacks_at tree front (n ∷ m ∷ ns) k q old = elim (same_name_or_not n k) [
-  | inl same ↦ subst (λ (l : Name). LacksAt tree front (n ∷ m ∷ ns) (l ∷ q) old) same
-      (same_name tree front n m ns old q (λ j rest. lacks_at tree (front ++ n ∷ []) (m ∷ ns) j rest old))
-  | inr other ↦ other_name tree front n m ns old k q other
+lacks_at : (tree : Path → Option Node) (prefix ns : Path) (k : Name) (q : Path) (old : Option Node) → LacksAt tree prefix ns (k ∷ q) old
+lacks_at tree prefix [] k q old = refl
+lacks_at tree prefix (n ∷ []) k q old = last_by n k q (tree (prefix ++ k ∷ q)) old
+lacks_at tree prefix (n ∷ m ∷ ns) k q old = elim (same_name_or_not n k) [
+  | inl same ↦ subst (λ (l : Name). LacksAt tree prefix (n ∷ m ∷ ns) (l ∷ q) old) same
+      (same_name tree prefix n m ns old q (λ j rest. lacks_at tree (prefix ++ n ∷ []) (m ∷ ns) j rest old))
+  | inr other ↦ other_name tree prefix n m ns old k q other
 ]
 
 -- ---- all of them
@@ -181,7 +181,7 @@ parent_is m rest (Some x) = refl
 -- what the last command leaves, of what the others leave
 last_by_rest : (tree : Path → Option Node) (to : Path) (k : Name) (q : Path) (left : Option Path) → below (k ∷ q) to ≡ left → tree to ≡ None
     → done_all (k ∷ q) (Mkdir to ∷ []) (parent_by left (tree (k ∷ q)) (tree (k ∷ q))) ≡ with_parents_by left (tree (k ∷ q))
-last_by_rest tree to k q None outside none = last_made to (k ∷ q) false (tree (k ∷ q)) (other_front to (k ∷ q) outside)
+last_by_rest tree to k q None outside none = last_made to (k ∷ q) false (tree (k ∷ q)) (other_prefix to (k ∷ q) outside)
 last_by_rest tree to k q (Some []) inside none =
     let is : to ≡ k ∷ q = below_some (k ∷ q) to [] inside ∙ append-nil (k ∷ q) in
     let empty : tree (k ∷ q) ≡ None = ap tree (sym is) ∙ none in
@@ -221,14 +221,14 @@ pub made_is_with_parents : MadeIsWithParents
 made_is_with_parents tree to top is complete path = made_by tree to top is complete (is_directory (tree to)) refl path
 
 -- where something is each of its parents is, and none is made
-pub none_lacks : (tree : Path → Option Node) → IsRooted tree → (front ns : Path) → is_some (tree (front ++ ns)) ≡ true
-    → lacking tree front ns ≡ []
-none_lacks tree is front [] there = refl
-none_lacks tree is front (n ∷ []) there = refl
-none_lacks tree is front (n ∷ m ∷ ns) there =
-    let first : Path = front ++ n ∷ [] in
+pub none_lacks : (tree : Path → Option Node) → IsRooted tree → (prefix ns : Path) → is_some (tree (prefix ++ ns)) ≡ true
+    → lacking tree prefix ns ≡ []
+none_lacks tree is prefix [] there = refl
+none_lacks tree is prefix (n ∷ []) there = refl
+none_lacks tree is prefix (n ∷ m ∷ ns) there =
+    let first : Path = prefix ++ n ∷ [] in
     let later : is_some (tree (first ++ m ∷ ns)) ≡ true =
-    ap (λ (p : Path). is_some (tree p)) (append_assoc front (n ∷ []) (m ∷ ns)) ∙ there in
+    ap (λ (p : Path). is_some (tree p)) (append_assoc prefix (n ∷ []) (m ∷ ns)) ∙ there in
     ap (λ (b : Bool). if b then lacking tree first (m ∷ ns) else Mkdir first ∷ lacking tree first (m ∷ ns))
     (rooted tree is first (m ∷ ns) later)
     ∙ none_lacks tree is first (m ∷ ns) later
@@ -244,7 +244,7 @@ put_by_rest : (tree : Path → Option Node) (to : Path) (bytes : List ℕ) (path
     → done_all path (Put to bytes ∷ []) (parent_by left (tree path) (tree path))
     ≡ file_by (same_path to path) (tree to) bytes (with_parents_by left (tree path))
 put_by_rest tree to bytes path None outside =
-    let other = other_front to path outside in
+    let other = other_prefix to path outside in
     ap (λ (b : Bool). file_by b (tree path) bytes (tree path)) other ∙ sym (ap (λ (b : Bool). file_by b (tree to) bytes (tree path)) other)
 put_by_rest tree to bytes path (Some []) inside =
     let is : to ≡ path = below_some path to [] inside ∙ append-nil path in

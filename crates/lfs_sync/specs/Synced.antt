@@ -84,13 +84,13 @@ abbrev pub remove_commands : Path → List Shown → List Command
 remove_commands [] held = Rm [] ∷ []
 remove_commands (n ∷ at) held = remove_by (n ∷ at) held
 
--- the directories that lack between a front of a path and its last name
+-- the directories that lack between a prefix of a path and its last name
 abbrev pub lacking : (Path → Option Node) → Path → Path → List Command
-lacking tree front [] = []
-lacking tree front (n ∷ []) = []
-lacking tree front (n ∷ m ∷ ns) =
-    if is_some (tree (front ++ n ∷ [])) then lacking tree (front ++ n ∷ []) (m ∷ ns)
-    else Mkdir (front ++ n ∷ []) ∷ lacking tree (front ++ n ∷ []) (m ∷ ns)
+lacking tree prefix [] = []
+lacking tree prefix (n ∷ []) = []
+lacking tree prefix (n ∷ m ∷ ns) =
+    if is_some (tree (prefix ++ n ∷ [])) then lacking tree (prefix ++ n ∷ []) (m ∷ ns)
+    else Mkdir (prefix ++ n ∷ []) ∷ lacking tree (prefix ++ n ∷ []) (m ∷ ns)
 
 -- `mkdir -p`: nothing where a directory is there; a file is refused as by `mkdir`
 abbrev pub make_commands : (Path → Option Node) → Path → List Command

@@ -26,14 +26,14 @@ pub fn mounted_rows_are_held()
     rows_show_the_tree();
 }
 
-/// A law: the commands by which a directory is made with its parents leave a directory at each front of its path where nothing was, and
+/// A law: the commands by which a directory is made with its parents leave a directory at each prefix of its path where nothing was, and
 /// all else as it was. In a volume's tree each path but the root's is in a directory.
 pub fn directories_are_made_with_parents()
     ensures made { MadeIsWithParents }
     ensures rooted { TreesAreRooted }
 {}
 
-/// A law: the commands by which a file is put with its parents leave the file at its path, a directory at each front of it where
+/// A law: the commands by which a file is put with its parents leave the file at its path, a directory at each prefix of it where
 /// nothing was, and all else as it was.
 pub fn files_are_put_with_parents()
     ensures { PutIsWithFile }

@@ -57,15 +57,15 @@ fn plan_parent(
     alloc: Global,
     mounted: &Mounted,
     plan: &mut Vec<Planned>,
-    front: &[&[u8]],
+    prefix: &[&[u8]],
 ) -> Result<(), AllocError>
     ensures { OnOk result ((rows : List SyncRow) → plan_asked rows plan.new.items ≡ plan_asked rows plan.old.items
-        ++ in_texts (if_so (not (is_some (tree mounted.now.outline (names front.now)))) (Mkdir (names front.now)))) }
+        ++ in_texts (if_so (not (is_some (tree mounted.now.outline (names prefix.now)))) (Mkdir (names prefix.now)))) }
 {
-    if is_there(alloc, mounted, front)? {
+    if is_there(alloc, mounted, prefix)? {
         return Ok(());
     }
-    let directory = planned(alloc, front, &[], PlannedKind::Mkdir)?;
+    let directory = planned(alloc, prefix, &[], PlannedKind::Mkdir)?;
     plan.push(directory)?;
     Ok(())
 }

@@ -13,14 +13,14 @@ use std::alloc::{AllocError, Global};
 /// A command on a path behind another.
 pub(crate) fn planned(
     alloc: Global,
-    front: &[&[u8]],
+    prefix: &[&[u8]],
     rest: &[&[u8]],
     kind: PlannedKind,
 ) -> Result<Planned, AllocError>
     ensures { IfOk result (λ one. (rows : List SyncRow) → planned_asked rows one
-        ≡ kind_asked rows (path_text (names front.now ++ names rest.now)) kind) }
+        ≡ kind_asked rows (path_text (names prefix.now ++ names rest.now)) kind) }
 {
-    let text = text_of(alloc, front, rest)?;
+    let text = text_of(alloc, prefix, rest)?;
     Ok(Planned { text, kind })
 }
 

@@ -34,11 +34,15 @@ fn append_names(text: &mut Vec<u8>, names: &[&[u8]]) -> Result<(), AllocError>
 }
 
 /// The text of a path behind another.
-pub(crate) fn text_of(alloc: Global, front: &[&[u8]], rest: &[&[u8]]) -> Result<Vec<u8>, AllocError>
-    ensures { IfOk result (λ text. text.items ≡ path_text (map (λ n. n.now) front.now ++ map (λ n. n.now) rest.now)) }
+pub(crate) fn text_of(
+    alloc: Global,
+    prefix: &[&[u8]],
+    rest: &[&[u8]],
+) -> Result<Vec<u8>, AllocError>
+    ensures { IfOk result (λ text. text.items ≡ path_text (map (λ n. n.now) prefix.now ++ map (λ n. n.now) rest.now)) }
 {
     let mut text = Vec::new(alloc);
-    append_names(&mut text, front)?;
+    append_names(&mut text, prefix)?;
     append_names(&mut text, rest)?;
     if text.is_empty() {
         text.push(b'/')?;

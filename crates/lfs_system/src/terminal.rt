@@ -425,11 +425,11 @@ impl Host for Terminal<'_> {
         }
     }
 
-    fn complain<D: Display + Drop>(&mut self, text: D) {
+    fn report<D: Display + Drop>(&mut self, text: D) {
         self.tell(text);
     }
 
-    fn complain_of(&mut self, image: &str) {
+    fn report_refused(&mut self, image: &str) {
         match self.subject {
             Subject::Image => self.say_of(image, self.said.as_ref()),
             Subject::Journal => {

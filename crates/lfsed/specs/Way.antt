@@ -4,7 +4,7 @@
 --   1  EndsWords     the words are read, as they are or with `--` before a stray one, or refused              lfsed/specs/Words.antt
 --   2  EndsNamed     the command that they name explains faults, lists images, or asks for a request or none  lfsed/specs/Words.antt
 --   3  EndsRequest   the name of an image that is to be new is spared, and the status tells the fault         lfs_serve/specs/Program.antt
---   4  EndsTask      a folder is made; or what the task names is read, and it becomes a step                  lfs_serve/specs/Program.antt
+--   4  EndsOperation      a folder is made; or what the operation names is read, and it becomes a step                  lfs_serve/specs/Program.antt
 --   5  EndsStep      the files get what the step leaves, or stay                                              lfs_serve/specs/Program.antt
 --   6  RunsStep      the step is handed the image's files, with no later commit in them or read so, and is run lfs_serve/specs/Program.antt
 --   7  Answers       it is done; or a fault holds, and image and journal stay                                 lfs_step/specs/Outcome.antt
@@ -25,7 +25,7 @@ use Rattle.lfs_history.specs.History.{History}
 use Rattle.lfs_host.specs.Files.{Files}
 use Rattle.lfs_host.specs.Scene.{Scene, WasRefused}
 use Rattle.lfs_request.specs.declared.request.Request.{Request}
-use Rattle.lfs_serve.specs.Requests.{FilesDenote, TaskGoesBy}
+use Rattle.lfs_serve.specs.Requests.{FilesDenote, OperationGoesBy}
 use Rattle.lfsed.specs.Words.{EndsNamed, EndsWords}
 
 -- ---- runs
@@ -78,7 +78,7 @@ AreRunsOn size name (r ∷ rs) old new = (mid : Files) × IsRunOn size name r ol
 -- a request leads there, by the fault that the status tells
 abbrev pub AskedGoes : ℕ → ℕ → TakenRequest → History → History → Type 0
 AskedGoes size status asked old new =
-    (fault : Option Fault) × (status ≡ status_of fault) × TaskGoesBy fault size asked.request.task asked.looked old new
+    (fault : Option Fault) × (status ≡ status_of fault) × OperationGoesBy fault size asked.request.operation asked.looked old new
 
 -- so does a run that ended as a request; any other leaves the history
 abbrev pub RunGoes : ℕ → ProgramRun → History → History → Type 0

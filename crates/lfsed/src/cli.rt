@@ -21,11 +21,11 @@ use lfs_arguments::{
     request_said,
 };
 use lfs_command::Refusal;
-use lfs_exchange::{MORE, print, tell_of_image};
+use lfs_exchange::{MORE, print, report_of_image};
 use lfs_find::list_images;
 use lfs_grammar::{dashed, matched, names_files_plainly};
 use lfs_host::Host;
-use lfs_report::tell_digits;
+use lfs_report::report_digits;
 use lfs_request::Fault;
 use lfs_serve::{served, stated_size};
 use lfs_texts::{explained, explanations};
@@ -46,7 +46,7 @@ pub fn cli<H: Host, W: AsStr>(alloc: Global, host: &mut H, words: &[W]) -> u8
 {
     match done(alloc, host, words) {
         Ok(status) => status,
-        Err(fault) => tell_of_image(host, OUTPUT, fault),
+        Err(fault) => report_of_image(host, OUTPUT, fault),
     }
 }
 
@@ -108,7 +108,7 @@ fn find<H: Host>(alloc: Global, host: &mut H, flash: &str) -> u8
 {
     match list_images(alloc, host, flash) {
         Ok(()) => 0,
-        Err(fault) => tell_of_image(host, flash, fault),
+        Err(fault) => report_of_image(host, flash, fault),
     }
 }
 
@@ -126,9 +126,9 @@ fn used_wrongly<H: Host>(host: &mut H, usage_error: UsageError<'_>) -> Result<u8
         digits,
     } = usage_error
     {
-        return Ok(tell_digits(host, command, reason, digits));
+        return Ok(report_digits(host, command, reason, digits));
     }
-    host.complain(UsageLine {
+    host.report(UsageLine {
         text: format_args!("error: {usage_error}{MORE}"),
     });
     Ok(USAGE)
@@ -172,7 +172,7 @@ fn explain<H: Host>(alloc: Global, host: &mut H, faults: Option<&[&str]>) -> Res
         return printed(host, list(alloc)?.as_str());
     };
     if let Some(fault) = faults.iter().find(|fault| explained(fault).is_none()) {
-        host.complain(UsageLine {
+        host.report(UsageLine {
             text: format_args!(
                 "error: invalid value '{fault}' for '[FAULT]...': no fault has this number or name{MORE}"
             ),
@@ -222,10 +222,10 @@ fn refused<H: Host>(alloc: Global, host: &mut H, error: Error) -> Result<u8, Fau
 {
     if error.use_stderr() {
         match retold(alloc, &error) {
-            Ok(text) => host.complain(UsageLine {
+            Ok(text) => host.report(UsageLine {
                 text: text.as_str(),
             }),
-            Err(_) => host.complain(UsageLine { text: error }),
+            Err(_) => host.report(UsageLine { text: error }),
         }
         return Ok(USAGE);
     }

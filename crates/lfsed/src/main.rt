@@ -10,7 +10,7 @@ mod way;
 use crate::cli::{USAGE, cli as run_words};
 use crate::json_word::told_form;
 use lfs_command::Refusal;
-use lfs_exchange::tell;
+use lfs_exchange::report;
 use lfs_host::Host;
 use lfs_json::Form;
 use lfs_request::Fault;
@@ -37,9 +37,9 @@ fn status(rt: &HostRuntime) -> u8 {
 /// Tells why the arguments can't be had, and answers the status.
 fn without_words(terminal: &mut Terminal<'_>, error: io::Error) -> u8 {
     if error.kind() == ErrorKind::OutOfMemory {
-        return tell(terminal, Fault::Refused(Refusal::Memory));
+        return report(terminal, Fault::Refused(Refusal::Memory));
     }
-    terminal.complain("lfsed: an argument is not UTF-8\n");
+    terminal.report("lfsed: an argument is not UTF-8\n");
     USAGE
 }
 

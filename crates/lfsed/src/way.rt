@@ -5,7 +5,7 @@
 //! | the words are read by the grammar | `cli`, over `matched` of lfs_grammar | `EndsWords` |
 //! | what they ask for is told apart, and the request read off them | `carried`, over `request_said` of lfs_arguments | `EndsNamed` |
 //! | a name that is to be new is looked at, and the end is told | `served` of lfs_serve | `EndsRequest` |
-//! | what the task names is read of the host, and it becomes a step | `done` of lfs_serve | `EndsTask` |
+//! | what the operation names is read of the host, and it becomes a step | `done` of lfs_serve | `EndsOperation` |
 //! | the files are taken up, and get what is left | `stepped` of lfs_serve, over `taken_up` and `stored` of lfs_exchange | `EndsStep`, `RunsStep` |
 //! | the step is taken on bytes | `run` of lfs_step | `Answers`, `AnswersDone` |
 //! | steps are taken on the history that the bytes denote | `changed` of lfs_change, over `Session` of lfs_session | `IsChanged`, `TakesAll`, `Takes`, `Does` |

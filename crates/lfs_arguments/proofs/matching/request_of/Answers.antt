@@ -53,11 +53,11 @@ returns-in_err-text-clause-unsaid c =
       | inr says ↦ absurd (c.in_err-text.ensures.none.1 (word (codes "image")) refl says.1)
     ])
 
-pub returns-in_err-task_of-clause-refused : goal.returns-in_err-task_of-clause-refused
-returns-in_err-task_of-clause-refused c =
-    let on = c.from_residual-in_err-task_of in
-    handed_on on.result c.in_err-task_of.field-0.0 _ on.ensures.1
-    (elim c.in_err-task_of.ensures.refused [
+pub returns-in_err-operation_of-clause-refused : goal.returns-in_err-operation_of-clause-refused
+returns-in_err-operation_of-clause-refused c =
+    let on = c.from_residual-in_err-operation_of in
+    handed_on on.result c.in_err-operation_of.field-0.0 _ on.ensures.1
+    (elim c.in_err-operation_of.ensures.refused [
       | inl unsaid ↦ inl unsaid
       | inr (inl memory) ↦ inr (inl memory)
       | inr (inr usage_error) ↦ inr (inr (inr (inr (c.in_ok-size.size, c.in_ok-size.ensures.block.0, usage_error))))

@@ -13,8 +13,8 @@ use Rattle.lfs_listing.specs.Below.{names}
 use Rattle.lfs_extract.specs.PathBelow.{host_name}
 use Rattle.lfs_host.specs.NewFolder.{Made, Makes}
 use Rattle.lfs_extract.specs.Extracted.{made_node}
-use Rattle.lfs_extract.specs.RowsBelow.{IsSharedFront}
-use Rattle.lfs_extract.proofs.FrontLemmas.{left_after}
+use Rattle.lfs_extract.specs.RowsBelow.{IsSharedPrefix}
+use Rattle.lfs_extract.proofs.PrefixLemmas.{left_after}
 use Rattle.lfs_extract.proofs.MakingLemmas.{AreLeft, all_left, has_blocks, has_texts, last_text, named_at, none_left, not_below, one_more, passed, root_left, some_left}
 use Rattle.lfs_extract.proofs.extracting.make_rows.Goals as goal
 
@@ -28,7 +28,7 @@ loop-row-init g c =
     let none : map (λ (n : Bor Name). n.now) c.new-rest.result.items ≡ [] = ap (map (λ (n : Bor Name). n.now)) c.new-rest.ensures.items in (
       [],
       record {
-        front = c.new-front.ensures at;
+        prefix = c.new-prefix.ensures at;
         rest = root_left at (map (λ (n : Bor Name). n.now) c.new-rest.result.items) none;
         left = subst (λ (xs : List Listed). AreLeft old old d at c.args.dir.now (rows_after [] xs) rows) (sym same)
             (all_left old d at c.args.dir.now rows c.requires.blocks c.requires.texts);
@@ -42,11 +42,11 @@ loop-row-preserved-then-not-is_below g c =
     let q : Path = c.loop-row.invariant.0 in
     let x : Listed = c.in-Some.row in
     let p : Path = path_after q x.depth x.entry.name in
-    let front : IsSharedFront at p c.behind-front.result = c.behind-front.ensures q c.loop-row.invariant.1.front in
-    let none : below at p ≡ None = not_below at p (c.if-not-is_below.ensures p front) in (
+    let prefix : IsSharedPrefix at p c.behind-prefix.result = c.behind-prefix.ensures q c.loop-row.invariant.1.prefix in
+    let none : below at p ≡ None = not_below at p (c.if-not-is_below.ensures p prefix) in (
       p,
       record {
-        front = front;
+        prefix = prefix;
         rest = none_left at p (map (λ (n : Bor Name). n.now) c.loop-row.rest.items) none;
         left = passed _ _ _ at _ q c.loop-row.row-iterator c.next.new.self x _ c.loop-row.invariant.1.left c.in-Some.ensures.steps none;
         kept = c.loop-row.invariant.1.kept;
@@ -60,14 +60,14 @@ follow_rest-requires g c =
     let x : Listed = c.in-Some.row in
     let p : Path = path_after q x.depth x.entry.name in
     let left : Path = map (λ (n : Bor Name). n.now) c.loop-row.rest.items in
-    let front : IsSharedFront at p c.behind-front.result = c.behind-front.ensures q c.loop-row.invariant.1.front in
-    let there : is_some (below at p) ≡ true = sym (c.if-not-is_below.ensures p front) in
+    let prefix : IsSharedPrefix at p c.behind-prefix.result = c.behind-prefix.ensures q c.loop-row.invariant.1.prefix in
+    let there : is_some (below at p) ≡ true = sym (c.if-not-is_below.ensures p prefix) in
     let inside : below at p ≡ Some (path_after left (length p - length at) x.entry.name) =
     left_after at q left x.depth x.entry.name c.loop-row.invariant.1.rest there in
     let texts = has_texts _ _ _ at _ q c.loop-row.row-iterator c.next.new.self x _ c.loop-row.invariant.1.left c.in-Some.ensures.steps
     (path_after left (length p - length at) x.entry.name) inside in
     subst (λ (y : Listed). c.more.result ≢ 0 → IsUtf8 y.entry.name) (sym c.row.view_is)
-    (last_text left (length p - length at) c.more.result x.entry.name (c.more.ensures p front) texts)
+    (last_text left (length p - length at) c.more.result x.entry.name (c.more.ensures p prefix) texts)
 
 pub make_row-requires : goal.make_row-requires
 make_row-requires g c = record {
@@ -88,20 +88,20 @@ loop-row-preserved g c =
     let p : Path = path_after q x.depth x.entry.name in
     let left : Path = map (λ (n : Bor Name). n.now) c.loop-row.rest.items in
     let rest : Path = map (λ (n : Bor Name). n.now) c.follow_rest.new.rest.items in
-    let front : IsSharedFront at p c.behind-front.result = c.behind-front.ensures q c.loop-row.invariant.1.front in
-    let there : is_some (below at p) ≡ true = sym (c.if-not-is_below.ensures p front) in
+    let prefix : IsSharedPrefix at p c.behind-prefix.result = c.behind-prefix.ensures q c.loop-row.invariant.1.prefix in
+    let there : is_some (below at p) ≡ true = sym (c.if-not-is_below.ensures p prefix) in
     let goes : rest ≡ path_after left c.more.result x.entry.name =
     subst (λ (y : Listed). rest ≡ path_after left c.more.result y.entry.name) c.row.view_is c.in_ok-follow_rest.ensures in
     let inside : below at p ≡ Some rest =
     left_after at q left x.depth x.entry.name c.loop-row.invariant.1.rest there
-    ∙ ap (λ (i : ℕ). Some (path_after left i x.entry.name)) (sym (c.more.ensures p front)) ∙ ap (λ (r : Path). Some r) (sym goes) in
+    ∙ ap (λ (i : ℕ). Some (path_after left i x.entry.name)) (sym (c.more.ensures p prefix)) ∙ ap (λ (r : Path). Some r) (sym goes) in
     let named = named_at dir c.as_str.result.now (string_bytes c.in_ok-name.name) c.deref.result.now c.follow_rest.new.rest.items rest
     c.as_str.ensures.value c.in_ok-name.ensures c.deref.ensures.value refl in
     let made : Makes mid new (made_node (host_name dir rest) (shown_node d x.entry) ∷ []) =
     subst (λ (n : List ℕ). Makes mid new (made_node n (shown_node d x.entry) ∷ [])) named c.in_ok-make_row.ensures.made in (
       p,
       record {
-        front = front;
+        prefix = prefix;
         rest = some_left at p rest inside;
         left = one_more old mid d at dir q c.loop-row.row-iterator c.next.new.self x (rows_listed c.args.rows) c.loop-row.invariant.1.left
             c.in-Some.ensures.steps rest inside new made;

@@ -4,7 +4,7 @@ use Rattle.lfs_serve_tests.proofs.AskingLemmas.{asking_in_range, asking_keeps}
 use Rattle.lfs_serve_tests.proofs.asking.ask_in_memory.Goals as goal
 
 pub served-requires : goal.served-requires
-served-requires c = asking_in_range c.args.request.now.task c.requires
+served-requires c = asking_in_range c.args.request.now.operation c.requires
 
 pub returns : goal.returns
 returns c = record {

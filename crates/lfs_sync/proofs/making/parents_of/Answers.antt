@@ -17,11 +17,11 @@ pub fronts-preserved : goal.fronts-preserved
 fronts-preserved c rows =
     let t = tree c.args.mounted.now.outline in
     let ns : Path = names c.args.path.now in
-    let front : names (take c.fronts.length c.args.path.now) ≡ take c.fronts.length ns =
+    let prefix : names (take c.fronts.length c.args.path.now) ≡ take c.fronts.length ns =
     sym (take-map (λ (n : Bor Name). n.now) c.fronts.length c.args.path.now) in
     parent_further t ns rows c.fronts.plan.items c.plan_parent.new.plan.items c.fronts.length c.fronts.auto.length
     (omega (arith, names_long c.args.path.now)) (c.fronts.invariant rows)
-    (subst (λ (p : Path). PlansBehind rows c.fronts.plan.items c.plan_parent.new.plan.items (if_so (not (is_some (t p))) (Mkdir p))) front
+    (subst (λ (p : Path). PlansBehind rows c.fronts.plan.items c.plan_parent.new.plan.items (if_so (not (is_some (t p))) (Mkdir p))) prefix
     (c.in_ok-plan_parent.ensures rows))
 
 pub returns : goal.returns

@@ -6,7 +6,7 @@ use Rattle.lfs_sync.specs.Synced.{lacking}
 use Rattle.lfs_sync.specs.declared.sync_row.SyncRow.{SyncRow}
 use Rattle.lfs_sync.proofs.making.parents_of.Given as goal
 
--- those so far, and those behind the front that has one name less
+-- those so far, and those behind the prefix that has one name less
 abbrev pub invariant-fronts : goal.invariant-fronts
 invariant-fronts l =
     (rows : List SyncRow) → plan_asked rows l.plan.items

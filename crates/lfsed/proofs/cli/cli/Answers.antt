@@ -8,5 +8,5 @@ returns-in-Err g c =
     let old : Scene = g.H.Known.known c.args.host.now in
     let by_done : Scene = g.H.Known.known c.done.new.host in
     let words = map g.W.AsStr.text c.args.words.now in
-    let ends = subst (λ (s : ℕ). EndsWords words old by_done s) (sym c.tell_of_image.ensures.status) c.in-Err.ensures.ended in
-    record { ended = subst (λ (new : Scene). EndsWords words old new c.tell_of_image.result) (sym c.tell_of_image.ensures.kept) ends }
+    let ends = subst (λ (s : ℕ). EndsWords words old by_done s) (sym c.report_of_image.ensures.status) c.in-Err.ensures.ended in
+    record { ended = subst (λ (new : Scene). EndsWords words old new c.report_of_image.result) (sym c.report_of_image.ensures.kept) ends }
