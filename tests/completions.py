@@ -23,6 +23,9 @@ printf 'called:'
 for word; do printf '<%s>' "$word"; done
 echo .
 """
+CALLED = r"called:((?:<[^>]*>)*)\."
+# How many seconds a shell may take for a line, on a machine with much to do.
+PATIENCE = 60
 SHELLS = {
     "bash": (["bash", "--norc", "--noprofile", "-i"], [
         "bind 'set enable-bracketed-paste off'", f"source {HOME}/completions/lfsed.bash",
@@ -81,32 +84,38 @@ class Shell:
             os.chdir(folder)
             paths = f"{folder}/programs:{os.environ['PATH']}"
             os.execvpe(command[0], command, dict(os.environ, PATH=paths, PS1="> ", TERM="xterm", HOME=str(folder), ZDOTDIR=str(folder)))
-        self.wait(1.0)
+        self.asked = 0
         for line in first:
-            self.type(line + "\r", 0.6)
+            self.type(line + "\r")
+        self.catch_up()
 
-    def wait(self, quiet):
-        """What is shown until nothing comes for so many seconds."""
-        shown, end = b"", time.monotonic() + 20
-        while time.monotonic() < end and select.select([self.terminal], [], [], quiet)[0]:
+    def type(self, text):
+        """Types a text."""
+        os.write(self.terminal, text.encode())
+
+    def shown_until(self, pattern, patience):
+        """What is shown until a text of this pattern stands there, or for so many seconds."""
+        shown, end = "", time.monotonic() + patience
+        while not re.search(pattern, shown) and select.select([self.terminal], [], [], max(0, end - time.monotonic()))[0]:
             try:
-                shown += os.read(self.terminal, 65_536)
+                shown += os.read(self.terminal, 65_536).decode(errors="replace")
             except OSError:
                 break
-        return shown.decode(errors="replace")
+        return shown
 
-    def type(self, text, quiet):
-        """Types a text, and answers what is shown then."""
-        os.write(self.terminal, text.encode())
-        return self.wait(quiet)
+    def catch_up(self):
+        """Waits until it has read all that was typed: until it answers a question of its own."""
+        self.asked += 1
+        self.type(f"expr {self.asked} + 7000\r")
+        self.shown_until(rf"\D{self.asked + 7000}\D", PATIENCE)
 
-    def called(self, line, patience):
+    def called(self, line):
         """The words that the program is called with where a tab ends a line; none where it isn't called."""
-        self.type(line, 0.2 * patience)
-        self.type("\t", 0.7 * patience)
-        shown = self.type("\r", 0.4 * patience)
-        self.type("\x03", 0.2 * patience)
-        found = re.findall(r"called:((?:<[^>]*>)*)\.", shown)
+        self.type(f"{line}\t\r")
+        found = re.findall(CALLED, self.shown_until(CALLED, PATIENCE))
+        if not found:
+            self.type("\x03")
+        self.catch_up()
         return re.findall(r"<([^>]*)>", found[-1]) if found else []
 
     def end(self):
@@ -121,21 +130,14 @@ def are_same(words, wanted):
     return [word.rstrip("/") or word for word in words] == [word.rstrip("/") or word for word in wanted]
 
 
-def tries(shell, line):
-    """The words that the program is called with, with ever more patience."""
-    for patience in 1, 3, 8:
-        yield shell.called(line, patience)
-
-
 def run_shell(name, folder):
     """Types all lines into a shell; answers how many were right and wrong."""
     shell, right, wrong = Shell(name, folder), 0, 0
     for line, wanted in LINES:
-        # On a machine with much to do a shell may take its time.
-        found = next((words for words in tries(shell, line) if are_same(words, wanted)), None)
-        right, wrong = right + (found is not None), wrong + (found is None)
-        if found is None:
-            print(f"wrong: {name}: {line}: {shell.called(line, 1)}")
+        words = shell.called(line)
+        right, wrong = right + are_same(words, wanted), wrong + (not are_same(words, wanted))
+        if not are_same(words, wanted):
+            print(f"wrong: {name}: {line}: {words}")
     shell.end()
     return right, wrong
 
