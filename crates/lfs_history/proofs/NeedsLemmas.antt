@@ -3,8 +3,8 @@ use Rattle.std.proofs.Common.{◌≡◌, ◌+◌, ◌*◌, ◌≤◌, List, [], 
 use Rattle.std.proofs.lemmas.Nat.{mul-le}
 use Rattle.lfs_block.specs.Disk.{Disk, IsDisk}
 use Rattle.lfs_block.specs.Patch.{ChangeSet, applied}
-use Rattle.lfs_joint.specs.Joined.{together}
-use Rattle.lfs_joint.specs.JointLaws.{TogetherIsShort, blocks_named}
+use Rattle.lfs_journal.specs.Joined.{together}
+use Rattle.lfs_journal.specs.JointLaws.{TogetherIsShort, blocks_named}
 use Rattle.lfs_fs.specs.Stored.{HeldAreHeldByLinks}
 use Rattle.lfs_journal.specs.Book.{patch_bytes}
 use Rattle.lfs_journal.proofs.Lengths.{patch_len}

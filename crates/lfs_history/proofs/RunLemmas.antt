@@ -2,7 +2,7 @@
 use Rattle.std.proofs.Common.{◌≡◌, [], ◌∷◌, sym, subst, Some, None}
 use Rattle.lfs_history.specs.declared.step_fault.StepFault.TheVariants.{Refused, RefusedAt, NothingToUndo, NothingToRedo, JournalFull}
 use Rattle.lfs_history.specs.History.{History, IsHistory}
-use Rattle.lfs_joint.specs.JointLaws.{TogetherApplies}
+use Rattle.lfs_journal.specs.JointLaws.{TogetherApplies}
 use Rattle.lfs_history.specs.Moves.{Undoes, Redoes}
 use Rattle.lfs_history.specs.Taking.{Move, Do, Together, Undo, Redo, Forget, Reply, Takes}
 use Rattle.lfs_history.specs.Laws.{RunsKeepHistories}

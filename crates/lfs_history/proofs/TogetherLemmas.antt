@@ -2,8 +2,8 @@
 use Rattle.std.proofs.Common.{ℕ, List, [], ◌∷◌, ◌++◌, Option, refl, sym, subst}
 use Rattle.lfs_block.specs.Disk.{Disk}
 use Rattle.lfs_block.specs.Patch.{ChangeSet, applied}
-use Rattle.lfs_joint.specs.Joined.{FollowOn, applied_all, together}
-use Rattle.lfs_joint.specs.JointLaws.{IsJoint, TogetherApplies}
+use Rattle.lfs_journal.specs.Joined.{FollowOn, applied_all, together}
+use Rattle.lfs_journal.specs.JointLaws.{IsJoint, TogetherApplies}
 use Rattle.lfs_fs.specs.Path.{Path}
 use Rattle.lfs_fs.specs.Volume.{Volume}
 use Rattle.lfs_fs.specs.Tree.{Node}

@@ -2,8 +2,8 @@
 use Rattle.std.specs.Prelude.{◌≡◌, ℕ, ◌+◌, ◌*◌, ◌≤◌, List, [], ◌∷◌, Option, None, length}
 use Rattle.lfs_block.specs.Disk.{Disk, IsDisk}
 use Rattle.lfs_block.specs.Patch.{ChangeSet, applied}
-use Rattle.lfs_joint.specs.Joined.{applied_all}
-use Rattle.lfs_joint.specs.JointLaws.{IsJoint}
+use Rattle.lfs_journal.specs.Joined.{applied_all}
+use Rattle.lfs_journal.specs.JointLaws.{IsJoint}
 use Rattle.lfs_fs.specs.Path.{Path}
 use Rattle.lfs_fs.specs.Volume.{Volume}
 use Rattle.lfs_fs.specs.Tree.{Node}

@@ -8,8 +8,7 @@ use lfs_block::{
     applied_patches_change_their_blocks, applied_patches_revert, reverted_patches_apply_again,
 };
 use lfs_fs::{both_sides_hold, images_mount_to_one_tree, mounted_images_have_no_cause};
-use lfs_joint::{composed_patches_apply, joints_are_short};
-use lfs_journal::books_are_read_once;
+use lfs_journal::{books_are_read_once, composed_patches_apply, joints_are_short};
 use lfs_law::{cuts_follow, need_is_exact, written_volumes_are_held};
 
 /// A law: a patch that is planned for a command leaves an image that mounts, to the tree that is the command's equation of

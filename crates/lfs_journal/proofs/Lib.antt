@@ -9,3 +9,7 @@ pub mod Heads
 pub mod Books
 pub mod Loops
 pub mod Lengths
+pub mod LaidLemmas
+pub mod JointLemmas
+pub mod NameLemmas
+pub mod PlaceLemmas

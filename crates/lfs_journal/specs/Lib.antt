@@ -3,3 +3,5 @@ pub mod Reading
 pub mod Faults
 pub mod Laws
 pub mod HeadSeen
+pub mod Joined
+pub mod JointLaws

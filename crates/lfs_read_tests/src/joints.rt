@@ -2,7 +2,7 @@
 
 use crate::patches::{SHORT, begin, record, sample, short};
 use lfs_block::{Blocks, Image, Patch};
-use lfs_joint::{Joint, composed_patches_apply};
+use lfs_journal::{Joint, composed_patches_apply};
 use std::alloc::{AllocError, Global};
 
 /// The patch that writes into blocks 1 and 2 behind the one that writes into blocks 1 and 3.

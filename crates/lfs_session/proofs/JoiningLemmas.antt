@@ -6,8 +6,8 @@ use Rattle.std.proofs.Math.Seq.{split_at}
 use Rattle.lfs_block.specs.Disk.{Disk, IsDisk}
 use Rattle.lfs_block.specs.Patch.{ChangeSet, IsGrowth, AgreesOld, AgreesNew, applied, reverted}
 use Rattle.lfs_block.specs.PatchLaws.{AppliedAgrees, AppliedRevertsBack}
-use Rattle.lfs_joint.specs.Joined.{applied_all, composed}
-use Rattle.lfs_joint.specs.JointLaws.{ComposedApplies, OneMoreTogether}
+use Rattle.lfs_journal.specs.Joined.{applied_all, composed}
+use Rattle.lfs_journal.specs.JointLaws.{ComposedApplies, OneMoreTogether}
 use Rattle.lfs_command.specs.AskedFor.{OnTexts, asked_for}
 use Rattle.lfs_command.specs.Command.{Asked}
 use Rattle.lfs_command.specs.declared.refusal.Refusal.{Refusal}

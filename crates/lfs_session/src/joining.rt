@@ -14,7 +14,7 @@ use crate::known::Known;
 use lfs_block::{Image, Patch, applied_patches_revert};
 use lfs_edit::{Asked, Refusal};
 use lfs_history::commands_are_made_together;
-use lfs_joint::{Joint, composed_patches_apply, joints_go_on};
+use lfs_journal::{Joint, composed_patches_apply, joints_go_on};
 use lfs_law::cuts_follow;
 use std::alloc::{AllocError, Global};
 

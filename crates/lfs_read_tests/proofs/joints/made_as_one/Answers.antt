@@ -1,7 +1,7 @@
 -- The second patch is made in the image that the first one makes.
 use Rattle.std.proofs.Common.{sym, subst}
 use Rattle.lfs_block.specs.Patch.{AgreesOld, ChangeSet, IsGrowth}
-use Rattle.lfs_joint.specs.Joined.{composed}
+use Rattle.lfs_journal.specs.Joined.{composed}
 use Rattle.lfs_read_tests.proofs.joints.made_as_one.Goals as goal
 
 pub lay-requires : goal.lay-requires

@@ -1,4 +1,0 @@
-pub mod LaidLemmas
-pub mod JointLemmas
-pub mod NameLemmas
-pub mod PlaceLemmas

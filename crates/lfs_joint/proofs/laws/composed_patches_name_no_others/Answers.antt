@@ -1,5 +1,0 @@
-use Rattle.lfs_joint.proofs.NameLemmas.{composed-names}
-use Rattle.lfs_joint.proofs.laws.composed_patches_name_no_others.Goals as goal
-
-pub returns : goal.returns
-returns c = composed-names

@@ -1,5 +1,0 @@
-use Rattle.lfs_joint.proofs.JointLemmas.{composed-short, together-short}
-use Rattle.lfs_joint.proofs.laws.joints_are_short.Goals as goal
-
-pub returns : goal.returns
-returns c = record { two = composed-short; all = together-short }
