@@ -47,8 +47,8 @@ fn add_eight(checksum: u32, bytes: &[u8; 8]) -> u32
     eight_shifted(0, checksum, bytes)
 }
 
-/// The checksum after sixteen more bytes: that of the last eight alone, which waits for nothing, meets what the first eight leave once eight
-/// are shifted out.
+/// The checksum after sixteen more bytes: that of the last eight alone, which waits for nothing, meets what the first eight leave once
+/// eight are shifted out.
 fn add_sixteen(checksum: u32, first: &[u8; 8], second: &[u8; 8]) -> u32
     ensures { result ≡ crc (crc checksum first.now) second.now }
 {

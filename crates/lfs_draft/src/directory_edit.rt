@@ -58,8 +58,8 @@ fn first_greater(parts: &[OutlinePart], name: &[u8]) -> Option<usize>
     parts.iter().position(|part| has_greater(part, name))
 }
 
-/// The place of the part where a name belongs: the first one that has a greater name, else the last one. Takes no time to speak of where the
-/// name comes last.
+/// The place of the part where a name belongs: the first one that has a greater name, else the last one. Takes no time to speak of where
+/// the name comes last.
 fn parent_among(parts: &[OutlinePart], name: &[u8]) -> usize
     requires some { 0 < length parts.now }
     requires rise { Rise (flat_map (λ p. p.entries) parts.now) }

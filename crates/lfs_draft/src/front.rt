@@ -29,8 +29,8 @@ fn front_of(outline: &Outline, path: &[&[u8]]) -> usize
     }
 }
 
-/// How many directories in front a command may set parts of: it sets none of those behind. Where files and directories are made in the order of
-/// their paths they are few: as many as are open, and one more.
+/// How many directories in front a command may set parts of: it sets none of those behind. Where files and directories are made in the
+/// order of their paths they are few: as many as are open, and one more.
 pub fn count_in_front(outline: &Outline, command: &Named<'_>) -> usize
     requires { IsEditable outline.now (named_command command.now) }
     ensures { (s : Supplies) → IsClean outline.now

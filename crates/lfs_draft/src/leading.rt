@@ -22,8 +22,8 @@ fn part_among<'a>(parts: &'a [OutlinePart], name: &[u8]) -> Option<&'a OutlinePa
     parts.iter().find(|part| has_name(part, name))
 }
 
-/// The first part of a directory that has an entry of a name. Takes no time to speak of where the name is in the last part, or new behind all
-/// others.
+/// The first part of a directory that has an entry of a name. Takes no time to speak of where the name is in the last part, or new behind
+/// all others.
 fn part_in<'a>(directory: &'a OutlineDirectory, name: &[u8]) -> Option<&'a OutlinePart>
     requires { Rise (entries directory.now) }
     ensures { option_map (λ p. p.now) result ≡ find (has_name name.now) (parts directory.now) }

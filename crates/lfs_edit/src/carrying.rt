@@ -145,8 +145,8 @@ fn leader(before: Option<(u32, u32)>, outline: &Outline, command: &Named<'_>) ->
     }
 }
 
-/// Cuts an outline that is ready, into pairs of those of the blocks that the command doesn't take for what it makes. Where memory is wanting,
-/// the outline is of no use.
+/// Cuts an outline that is ready, into pairs of those of the blocks that the command doesn't take for what it makes. Where memory is
+/// wanting, the outline is of no use.
 fn cut_ready(
     alloc: Global,
     outline: &mut Outline,
@@ -167,9 +167,9 @@ fn cut_ready(
     Ok(())
 }
 
-/// Edits and cuts an outline on which no check refuses a command, those on room aside: `EntryTooLarge` where some part that it sets then has an
-/// entry that weighs more than a block has room for, else `NoSpace` where fewer blocks are free than it needs. The blocks that the command
-/// takes. Where it is refused, the outline is of no use. `Memory` says only that a growth was refused.
+/// Edits and cuts an outline on which no check refuses a command, those on room aside: `EntryTooLarge` where some part that it sets then
+/// has an entry that weighs more than a block has room for, else `NoSpace` where fewer blocks are free than it needs. The blocks that the
+/// command takes. Where it is refused, the outline is of no use. `Memory` says only that a growth was refused.
 fn carry_over(
     alloc: Global,
     outline: &mut Outline,
@@ -201,8 +201,8 @@ fn carry_over(
     Ok(blocks)
 }
 
-/// The same, with the table of the blocks that the outline uses, which gets as many blocks as the command leaves, and with the blocks that the
-/// command gives back. Where it is refused, outline and table are of no use.
+/// The same, with the table of the blocks that the outline uses, which gets as many blocks as the command leaves, and with the blocks that
+/// the command gives back. Where it is refused, outline and table are of no use.
 pub(crate) fn carry_judged(
     alloc: Global,
     outline: &mut Outline,
@@ -246,8 +246,8 @@ pub(crate) fn settle(outline: &mut Outline, used: &mut UsedBlocks, carried: &Car
     used.give_back(&carried.gone);
 }
 
-/// Carries out a command on the outline of a volume, and on the table of the blocks that it uses: they become those of what the command leaves.
-/// Refusals are as of `carry_out`. Where it is refused, outline and table are of no use.
+/// Carries out a command on the outline of a volume, and on the table of the blocks that it uses: they become those of what the command
+/// leaves. Refusals are as of `carry_out`. Where it is refused, outline and table are of no use.
 pub fn carry(
     alloc: Global,
     outline: &mut Outline,

@@ -56,8 +56,8 @@ fn written(
     Ok(Patch::of(size, before, after, changes))
 }
 
-/// Carries out a command on an image, the outline of its volume and the table of the blocks that it uses, where no check refuses it, those on
-/// room aside: the patch of the image, and outline and table of the patched image. Where it is refused, outline and table are of no use.
+/// Carries out a command on an image, the outline of its volume and the table of the blocks that it uses, where no check refuses it, those
+/// on room aside: the patch of the image, and outline and table of the patched image. Where it is refused, outline and table are of no use.
 pub(crate) fn patch_judged(
     alloc: Global,
     image: &Image,

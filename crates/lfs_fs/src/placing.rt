@@ -44,7 +44,8 @@ fn number(value: usize) -> Result<u16, AllocError>
     u16::try_from(value).map_err(|_| AllocError)
 }
 
-/// The number of entries of a directory's part; none where there is no such part. It counts as want of memory where a place has no room for it.
+/// The number of entries of a directory's part; none where there is no such part. It counts as want of memory where a place has no room for
+/// it.
 fn part_len(directory: &OutlineDirectory, part: u16) -> Result<u16, AllocError>
     ensures { IfOk result (λ len. IfSome (slice_get (parts directory.now) part) (λ p. len ≡ length p.entries)) }
 {

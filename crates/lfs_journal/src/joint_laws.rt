@@ -1,4 +1,5 @@
-//! What holds of patches that are made one after another, as one patch. A function here does nothing but call laws: its contract is the law.
+//! What holds of patches that are made one after another, as one patch. A function here does nothing but call laws: its contract is the
+//! law.
 
 ghost use Rattle.lfs_journal.specs.JointLaws.{ComposedApplies, ComposedIsShort, ComposedNames, ComposedReverts, OneMoreTogether, TogetherApplies, TogetherIsShort, TogetherReverts};
 

@@ -102,8 +102,9 @@ fn send_sums<S: Sink>(
 }
 
 /// Sends how many blocks each path of a mounted image takes: a line for each, in the order of paths. It has the number of blocks that the
-/// parts of its directory or the chain of its file have, with those of all that is below it; `d` or `f`; and the path, as a listing shows it.
-/// A file in its entry takes none. The last line has the number of those that nothing uses, and a hyphen. In JSON a line is an object with
+/// parts of its directory or the chain of its file have, with those of all that is below it; `d` or `f`; and the path, as a listing shows
+/// it. A file in its entry takes none. The last line has the number of those that nothing uses, and a hyphen. In JSON a line is an object
+/// with
 /// `kind`, a path and `blocks`. `CannotWrite` where the sink fails, and a beginning went out, not all; `Memory` says only that a growth was
 /// refused, and a beginning went out, perhaps all. At most 64 KiB of the text and one line wait at a time.
 pub fn send_block_sums<S: Sink>(

@@ -91,11 +91,14 @@ fn send_merged<A: Blocks, B: Blocks, S: Sink>(
     Ok(differs)
 }
 
-/// Sends a text, and behind it what differs between the trees of two mounted images, row by row in the order of paths: the lines of a row that only the first has, each with `- ` in front; those of a row that only
-/// the second has, with `+ `; and where both have another kind or other attributes at a path, the first's and then the second's. Of files that differ in their contents alone the second's own line is sent, with `~ `
-/// in front. In JSON `change` says so in an object a row: `removed`, `added` or `contents`. Equal trees send no row. The answer is whether anything was sent. `between` is the patch that leads from the first to the
-/// second, where it is known: the blocks that it leaves aren't read. `CannotWrite` where the sink fails, and a beginning went out, not all; `Memory` says only that a growth was refused, and a beginning went out,
-/// perhaps all. At most 64 KiB of the text and the lines of two rows wait at a time, and no contents are copied.
+/// Sends a text, and behind it what differs between the trees of two mounted images, row by row in the order of paths: the lines of a row
+/// that only the first has, each with `- ` in front; those of a row that only the second has, with `+ `; and where both have another kind
+/// or other attributes at a path, the first's and then the second's. Of files that differ in their contents alone the second's own line is
+/// sent, with `~ ` in front. In JSON `change` says so in an object a row: `removed`, `added` or `contents`. Equal trees send no row. The
+/// answer is whether anything was sent. `between` is the patch that leads from the first to the second, where it is known: the blocks that
+/// it leaves aren't read. `CannotWrite` where the sink fails, and a beginning went out, not all; `Memory` says only that a growth was
+/// refused, and a beginning went out, perhaps all. At most 64 KiB of the text and the lines of two rows wait at a time, and no contents are
+/// copied.
 pub fn send_difference<A: Blocks, B: Blocks, S: Sink>(
     alloc: Global,
     form: Form,

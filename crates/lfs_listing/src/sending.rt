@@ -14,9 +14,10 @@ use lfs_host::Sink;
 use lfs_json::Form;
 use std::alloc::Global;
 
-/// Sends the listing of the rows that are at a path or below: for each a line with `d` for a directory or `f` for a file, its size in bytes at the right of
-/// ten places, or `-` for a directory, and its path, in which `\x` and two digits stand for each byte that isn't printable ASCII or is a backslash; then
-/// for each of its attributes a line with `@`, the kind and the value in hexadecimal digits. In JSON it is a line as `append_json_row` adds it.
+/// Sends the listing of the rows that are at a path or below: for each a line with `d` for a directory or `f` for a file, its size in bytes
+/// at the right of ten places, or `-` for a directory, and its path, in which `\x` and two digits stand for each byte that isn't printable
+/// ASCII or is a backslash; then for each of its attributes a line with `@`, the kind and the value in hexadecimal digits. In JSON it is a
+/// line as `append_json_row` adds it.
 /// `CannotWrite` where the sink fails, and a beginning went out, not all; `Memory` says only that a growth was refused, and a beginning went out, perhaps
 /// all. At most 64 KiB of the text and the lines of one row wait at a time.
 pub fn send_listing<S: Sink>(

@@ -17,9 +17,9 @@ use lfs_edit::carry;
 use lfs_law::free_after;
 use std::alloc::Global;
 
-/// Carries out a command that rows have on a new image: what it takes for a file's contents is laid at once, and what it gives back is erased.
-/// A refusal is the verdict of the command on the volume so far; `Memory` says only that a growth was refused. After a refusal the image is of
-/// no more use.
+/// Carries out a command that rows have on a new image: what it takes for a file's contents is laid at once, and what it gives back is
+/// erased. A refusal is the verdict of the command on the volume so far; `Memory` says only that a growth was refused. After a refusal the
+/// image is of no more use.
 pub(crate) fn carry_on(
     alloc: Global,
     new: &mut NewImage,

@@ -25,8 +25,9 @@ pub fn new_images_hold()
     both_sides_hold();
 }
 
-/// A law: an erased image is one of the root alone, whose parts aren't written yet (`begin`); a command of a row, whose contents are laid and
-/// whose old ones are erased, leads to another such image (`go_on`); and where the outline is written, it is the volume's image (`finish`).
+/// A law: an erased image is one of the root alone, whose parts aren't written yet (`begin`); a command of a row, whose contents are laid
+/// and whose old ones are erased, leads to another such image (`go_on`); and where the outline is written, it is the volume's image
+/// (`finish`).
 pub fn unwritten_images_go_on()
     ensures begin { ErasedAreUnwritten }
     ensures go_on { CommandsGoOn }

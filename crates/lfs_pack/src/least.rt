@@ -28,9 +28,9 @@ pub fn most_count(size: u32) -> u32
     most.min(MOST_BLOCKS) as u32
 }
 
-/// The least number of blocks of `size` bytes of an image with these limits that holds the rows. It is how many blocks what the rows say uses
-/// in an image of as many blocks as one may have: the first ones, in an order that doesn't depend on how many there are. A refusal is one of
-/// an image of as many blocks as one may have. Takes memory for such an image.
+/// The least number of blocks of `size` bytes of an image with these limits that holds the rows. It is how many blocks what the rows say
+/// uses in an image of as many blocks as one may have: the first ones, in an order that doesn't depend on how many there are. A refusal is
+/// one of an image of as many blocks as one may have. Takes memory for such an image.
 pub fn least_count(
     alloc: Global,
     size: u32,

@@ -1,4 +1,5 @@
-//! New images of rows of paths, whose commands are carried out one after another, each part written once; and what an image holds, as such rows.
+//! New images of rows of paths, whose commands are carried out one after another, each part written once; and what an image holds, as such
+//! rows.
 #![tactic(auto)]
 
 mod beginning;

@@ -44,8 +44,8 @@ pub(crate) fn packed_image(
     Ok(new)
 }
 
-/// The image that holds the volume: each part is written once, alone into the first block of its pair, the second one of which stays erased, as
-/// each block does that the volume doesn't use.
+/// The image that holds the volume: each part is written once, alone into the first block of its pair, the second one of which stays
+/// erased, as each block does that the volume doesn't use.
 fn finished(alloc: Global, new: NewImage) -> Result<Image, AllocError>
     requires { (v : Volume) × IsAtWork new v }
     ensures { IfOk result (λ image. (v : Volume) → IsAtWork new v → IsNewImageOf v image.disk) }
@@ -71,12 +71,12 @@ pub fn pack(alloc: Global, size: u32, count: u32, rows: &[PackRow<'_>]) -> Resul
     pack_within(alloc, size, count, NEW_LIMITS, rows, &mut at)
 }
 
-/// A new image of `count` blocks of `size` bytes with what the rows have at their paths: one with these limits that mounts to exactly the map
-/// of the rows. Contents go straight into the image, and each part of a directory is written once, into the first block of its pair. Takes
-/// time that is near-linear in bytes and rows. A refusal is what the next of these commands is refused with, with its numbers, once those
-/// before it are carried out: for each row but the root's, to make the directory or to put the file; then to set its attributes, one after
-/// another. `Memory` says only that a growth was refused. How many rows are added is put into `at`: for any other refusal that is the index
-/// of the row that is refused.
+/// A new image of `count` blocks of `size` bytes with what the rows have at their paths: one with these limits that mounts to exactly the
+/// map of the rows. Contents go straight into the image, and each part of a directory is written once, into the first block of its pair.
+/// Takes time that is near-linear in bytes and rows. A refusal is what the next of these commands is refused with, with its numbers, once
+/// those before it are carried out: for each row but the root's, to make the directory or to put the file; then to set its attributes, one
+/// after another. `Memory` says only that a growth was refused. How many rows are added is put into `at`: for any other refusal that is the
+/// index of the row that is refused.
 pub fn pack_within(
     alloc: Global,
     size: u32,

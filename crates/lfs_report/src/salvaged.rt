@@ -10,8 +10,8 @@ use lfs_block::{Image, MountFault};
 use lfs_request::Fault;
 use std::alloc::Global;
 
-/// Why not all of an image was saved, which doesn't mount for this fault, with what the image states where that may be why, and whether what
-/// it begins with was read; `seen` is what is seen of its bytes. Takes memory, and tells of nothing more where it is refused.
+/// Why not all of an image was saved, which doesn't mount for this fault, with what the image states where that may be why, and whether
+/// what it begins with was read; `seen` is what is seen of its bytes. Takes memory, and tells of nothing more where it is refused.
 pub fn stop_of_salvaging(
     alloc: Global,
     fault: MountFault,

@@ -80,8 +80,8 @@ fn refused_statement(
     }
 }
 
-/// Why a folder wasn't made of an image for an operation, with what that states, with the place of its fault, whose text is put into `beside`, or
-/// with what is known of the operation's path at its place. Takes memory, and tells of nothing more where it is refused.
+/// Why a folder wasn't made of an image for an operation, with what that states, with the place of its fault, whose text is put into
+/// `beside`, or with what is known of the operation's path at its place. Takes memory, and tells of nothing more where it is refused.
 pub fn stop_of_extracting(
     alloc: Global,
     operation: &Operation<'_>,

@@ -107,9 +107,9 @@ fn find_left<C: Blocks>(
     lone_areas(alloc, parts, table)
 }
 
-/// Saves all that can still be read of an image, which needn't mount, in a new folder `dir` of a host. The tree of its root goes there. What
-/// is found where the thread goes on and no entry leads goes below a folder `lost+found` in it, into a folder of its first block's number.
-/// Where a pair of them isn't read for what its blocks hold, blocks by themselves are looked at too, and what they hold is saved
+/// Saves all that can still be read of an image, which needn't mount, in a new folder `dir` of a host. The tree of its root goes there.
+/// What is found where the thread goes on and no entry leads goes below a folder `lost+found` in it, into a folder of its first block's
+/// number. Where a pair of them isn't read for what its blocks hold, blocks by themselves are looked at too, and what they hold is saved
 /// there. Each block is saved once, so that no more is made than the image has. Pairs are read in `parts`, and the blocks of files in
 /// `disk`. Nothing is made where no part is found.
 ///

@@ -26,7 +26,8 @@ use lfs_request::{Fault, Manner, Place, Request, View};
 use lfs_step::names_of_directory;
 use std::alloc::Global;
 
-/// Makes a folder of the host out of what stands at a path in an image's file and below it, as the image is looked at. What commits of a later version stand in it is put into
+/// Makes a folder of the host out of what stands at a path in an image's file and below it, as the image is looked at. What commits of a
+/// later version stand in it is put into
 /// `beside`. Takes memory.
 pub(crate) fn extracted<H: Host>(
     alloc: Global,

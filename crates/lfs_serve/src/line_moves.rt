@@ -57,7 +57,8 @@ pub(crate) fn read_lines<H: Host>(
     Ok(read)
 }
 
-/// The moves that lines report_pieces, in their order, with the contents that they put, of which the caller owes some for each line. Takes memory.
+/// The moves that lines report_pieces, in their order, with the contents that they put, of which the caller owes some for each line. Takes
+/// memory.
 pub(crate) fn moves_of<'a>(
     alloc: Global,
     lines: &'a [ScriptLine<'a>],

@@ -74,8 +74,8 @@ fn carry_on(
     Ok(())
 }
 
-/// Takes the patches that a joint is back from the image that they made, if there is a joint. What is known of that image is known no longer
-/// then.
+/// Takes the patches that a joint is back from the image that they made, if there is a joint. What is known of that image is known no
+/// longer then.
 fn take_back(image: &mut Image, known: &mut Option<Known>, joint: Option<Joint>)
     requires agrees { MayTakeBack joint image.old.disk }
     requires known { IsKnown image.old.disk known.old }
@@ -90,7 +90,8 @@ fn take_back(image: &mut Image, known: &mut Option<Known>, joint: Option<Joint>)
 }
 
 /// Carries commands out on an image, one after another, and answers their patches as one, which there is none of where there is no command.
-/// What was known of the image is known of the one that they leave. The first that is refused leaves the image as it was before all of them.
+/// What was known of the image is known of the one that they leave. The first that is refused leaves the image as it was before all of
+/// them.
 pub(crate) fn joined(
     alloc: Global,
     image: &mut Image,

@@ -223,8 +223,8 @@ impl Session {
         Ok(())
     }
 
-    /// Carries commands out, one after another, as one change that can be taken back; what was undone is dropped, and then all images of the
-    /// past but the nearest, as many as are said. No command is no change. Any refusal leaves all as it was: `JournalFull` where 1,000
+    /// Carries commands out, one after another, as one change that can be taken back; what was undone is dropped, and then all images of
+    /// the past but the nearest, as many as are said. No command is no change. Any refusal leaves all as it was: `JournalFull` where 1,000
     /// changes were made and all are kept, then the first command that is refused, with its place.
     pub fn together(
         &mut self,

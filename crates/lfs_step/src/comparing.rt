@@ -26,8 +26,8 @@ use lfs_request::{Fault, OtherFault};
 use std::alloc::{AllocError, Global};
 use std::mem::forget;
 
-/// Says what the bytes `others`, with blocks of `size` bytes, have otherwise than an image, in a form, or for `None` only whether they do. The
-/// first of these that holds is told: the bytes are no image, the first image doesn't mount, the other doesn't, something differs.
+/// Says what the bytes `others`, with blocks of `size` bytes, have otherwise than an image, in a form, or for `None` only whether they do.
+/// The first of these that holds is told: the bytes are no image, the first image doesn't mount, the other doesn't, something differs.
 pub(crate) fn compare_bytes<S: Sink>(
     alloc: Global,
     image: &Image,

@@ -16,9 +16,10 @@ use lfs_json::Form;
 use lfs_session::{Changes, read_changes};
 use std::alloc::Global;
 
-/// The text of the history that the bytes of a journal denote on an image: for each change, from the oldest on, a line with its
-/// number and `done` or `undone`, and then what differs between the tree of the image before it and that of the image after it,
-/// as `send_difference` sends it; in JSON the line is an object with `number` and `state`. It is refused as `Session::open` refuses the journal: by the image's own cause, then
+/// The text of the history that the bytes of a journal denote on an image: for each change, from the oldest on, a line with its number and
+/// `done` or `undone`, and then what differs between the tree of the image before it and that of the image after it, as `send_difference`
+/// sends it; in JSON the line is an object with `number` and `state`. It is refused as `Session::open` refuses the journal: by the image's
+/// own cause, then
 /// `JournalFormat`, `JournalMismatch` and `JournalImage`; want of memory is told as the mount's. One image is held and moved
 /// along, each other one is mounted once, and the image stands again as it was.
 pub fn log_of(

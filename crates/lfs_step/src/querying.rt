@@ -32,8 +32,8 @@ use lfs_request::{Fault, Outcome, Place, Query};
 use std::alloc::Global;
 use std::mem::forget;
 
-/// Answers a query of bytes that are an image, with blocks of `size` bytes, and of its journal, in a form; both are answered as they were handed in.
-/// Takes memory.
+/// Answers a query of bytes that are an image, with blocks of `size` bytes, and of its journal, in a form; both are answered as they were
+/// handed in. Takes memory.
 pub fn queried<S: Sink>(
     alloc: Global,
     query: Query<'_, Vec<u8>>,

@@ -239,10 +239,10 @@ fn write_link<B: Blocks>(
     Ok(())
 }
 
-/// The changes that write the links of an outline whose parts are set, beside those in `base`: a part goes on with a hard tail to the next one of its directory, the
-/// last of a directory with a soft one to the next directory, and the last of all with none. A pair whose first block the table marks takes one change: of its live
-/// block, to which a commit is appended, where there is room for it, and else of the other one, which is rewritten; a part that was cut is rewritten. Another pair
-/// takes two.
+/// The changes that write the links of an outline whose parts are set, beside those in `base`: a part goes on with a hard tail to the next
+/// one of its directory, the last of a directory with a soft one to the next directory, and the last of all with none. A pair whose first
+/// block the table marks takes one change: of its live block, to which a commit is appended, where there is room for it, and else of the
+/// other one, which is rewritten; a part that was cut is rewritten. Another pair takes two.
 pub fn write_links<B: Blocks>(
     alloc: Global,
     image: &B,
