@@ -1,7 +1,7 @@
 pub mod ContentsLemmas
 pub mod DirectoryLemmas
 pub mod BetweenLemmas
-pub mod TellingLemmas
+pub mod AppendingLemmas
 pub mod LogLemmas
 pub mod OutcomeLemmas
 pub mod SayingLemmas

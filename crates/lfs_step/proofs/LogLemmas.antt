@@ -18,7 +18,7 @@ use Rattle.lfs_history.specs.Opening.{Opens, RefusesOpening, HasSomeCause}
 use Rattle.lfs_json.specs.declared.form.Form.{Form}
 use Rattle.lfs_session.specs.Opened.{DenotesChanges, RefusesMounts}
 use Rattle.lfs_session.proofs.OpeningLemmas.{others_refused}
-use Rattle.lfs_step.specs.Between.{TellsAll, images_at}
+use Rattle.lfs_step.specs.Between.{AppendsChanges, images_at}
 use Rattle.lfs_step.specs.Log.{IsHistoryLog, history_text_from}
 
 -- ---- lists
@@ -53,7 +53,7 @@ each_mounts (d ∷ ds) [] are = absurd are
 -- ---- all are told
 
 pub logged : (form : Form) (d : Disk) (bytes : List ℕ) (ps : List ChangeSet) (done : ℕ) (old new : List ℕ) → DenotesChanges d bytes ps done → old ≡ []
-    → TellsAll form d ps done done old new → (h : History) × Opens d bytes h × IsHistoryLog form h new
+    → AppendsChanges form d ps done done old new → (h : History) × Opens d bytes h × IsHistoryLog form h new
 logged form d bytes ps done old new is empty told =
     let past = past_of (reverse (take done ps)) d in
     let future = future_of (drop done ps) d in

@@ -24,14 +24,14 @@ images_at d patches at = images (history_at d patches at)
 abbrev pub images_behind : Disk → List ChangeSet → ℕ → List Disk
 images_behind d patches at = future_of (drop at patches) d
 
--- all images mount, and a text was added that tells all changes, of which so many are done
-pub record TellsAll (form : Form) (d : Disk) (patches : List ChangeSet) (at done : ℕ) (old new : List ℕ) : Type 0 where
+-- all images mount, and the lines of all changes were appended, of which so many are done
+pub record AppendsChanges (form : Form) (d : Disk) (patches : List ChangeSet) (at done : ℕ) (old new : List ℕ) : Type 0 where
   pub mounts : List MountedValue
   pub are : AllZip IsMountOf (images_at d patches at) mounts
   pub text : new ≡ old ++ history_text_from form 1 done (images_at d patches at) mounts
 
--- all images behind one mount, and a text was added that tells the changes from there on; it mounts to the first value
-pub record TellsOn (form : Form) (d : Disk) (m : MountedValue) (patches : List ChangeSet) (at done : ℕ) (old new : List ℕ) : Type 0 where
+-- all images behind one mount, and the lines of the changes from there on were appended; it mounts to the first value
+pub record AppendsLater (form : Form) (d : Disk) (m : MountedValue) (patches : List ChangeSet) (at done : ℕ) (old new : List ℕ) : Type 0 where
   pub mounts : List MountedValue
   pub are : AllZip IsMountOf (images_behind d patches at) mounts
   pub text : new ≡ old ++ log_behind form (at + 1) done d m (images_behind d patches at) mounts

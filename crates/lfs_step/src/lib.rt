@@ -1,6 +1,7 @@
 //! One step on the bytes of an image and its journal, and the texts that its questions are answered with.
 #![tactic(auto)]
 
+mod appending;
 mod comparing;
 mod contents;
 mod course;
@@ -15,7 +16,6 @@ mod sending;
 mod standing;
 mod step;
 mod summary;
-mod telling;
 mod tree_changing;
 
 pub use contents::send_file;

@@ -21,7 +21,7 @@ fn state_of(number: usize, done: usize) -> &'static [u8]
 }
 
 /// Adds the line of a change as text, and answers whether memory was enough for it.
-fn tell_text(text: &mut MemorySink, number: usize, done: usize) -> bool
+fn append_text_line(text: &mut MemorySink, number: usize, done: usize) -> bool
     requires { text.old.has_failed ≡ false }
     ensures line { IsTrue result → text.new.bytes.items ≡ text.old.bytes.items ++ change_line Text number done }
     ensures failed { text.new.has_failed ≡ not result }
@@ -32,7 +32,7 @@ fn tell_text(text: &mut MemorySink, number: usize, done: usize) -> bool
 }
 
 /// Adds the line of a change in a form, and answers whether memory was enough for it.
-pub(crate) fn tell_line(
+pub(crate) fn append_line(
     alloc: Global,
     form: Form,
     text: &mut MemorySink,
@@ -44,7 +44,7 @@ pub(crate) fn tell_line(
     ensures works { IsTrue result → text.new.has_failed ≡ false }
 {
     match form {
-        Form::Text => tell_text(text, number, done),
+        Form::Text => append_text_line(text, number, done),
         Form::Json => {
             append_json_step(alloc, &mut text.bytes, number as u64, number <= done).is_ok()
         }

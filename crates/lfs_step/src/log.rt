@@ -5,9 +5,9 @@ ghost use Rattle.lfs_history.specs.History.{History};
 ghost use Rattle.lfs_history.specs.Opening.{Opens, RefusesOpening};
 ghost use Rattle.lfs_step.specs.Log.{IsHistoryLog};
 
+use crate::appending::append_changes;
 use crate::course::Course;
 use crate::mounting::erased_block;
-use crate::telling::tell_all;
 use lfs_block::{Blocks, Image};
 use lfs_fs::mounted_images_have_no_cause;
 use lfs_history::OpenFault;
@@ -46,6 +46,6 @@ pub fn log_of(
         form,
     };
     let mut text = MemorySink::new(alloc);
-    tell_all(alloc, image, &course, done, &mut text)?;
+    append_changes(alloc, image, &course, done, &mut text)?;
     Ok(text.bytes)
 }

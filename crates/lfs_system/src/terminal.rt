@@ -38,7 +38,7 @@ enum Subject {
 #[derive(Drop)]
 pub struct Terminal<'a> {
     rt: &'a HostRuntime,
-    /// The form of what is told on standard error.
+    /// The form of what is reported on standard error.
     form: Form,
     /// What stands in the place of a standard file that is closed.
     closed: Closed,
@@ -62,7 +62,7 @@ pub struct Terminal<'a> {
 }
 
 impl<'a> Terminal<'a> {
-    /// The host that the runtime stands for, on whose standard error all is told in a form. No file of the program is open yet.
+    /// The host that the runtime stands for, on whose standard error all is reported in a form. No file of the program is open yet.
     pub fn new(rt: &'a HostRuntime, form: Form) -> Terminal<'a> {
         Terminal {
             rt,
@@ -119,17 +119,17 @@ impl<'a> Terminal<'a> {
     }
 
     /// Writes a text to standard error, in JSON by its alternate form.
-    fn tell<D: Display + Drop>(&self, text: D) {
+    fn write_report<D: Display + Drop>(&self, text: D) {
         let _ = match self.form {
             Form::Text => self.rt.eprint(text),
             Form::Json => self.rt.eprint(format_args!("{text:#}")),
         };
     }
 
-    /// Says what the system said of something, where it said something.
-    fn say_of<D: Display + Drop>(&self, name: D, said: Option<&io::Error>) {
+    /// Reports what the system said of something, where it said something.
+    fn report_error<D: Display + Drop>(&self, name: D, said: Option<&io::Error>) {
         if let Some(error) = said {
-            self.tell(Told {
+            self.write_report(Told {
                 of: name,
                 text: error,
             });
@@ -197,7 +197,7 @@ fn contents_of(rt: &HostRuntime, alloc: Global, name: &str, most: u64) -> io::Re
 }
 
 /// Tells that standard input is read where somebody types there, who may not know it.
-fn tell_of_typing(rt: &HostRuntime) {
+fn announce_typing(rt: &HostRuntime) {
     if rt.stdin().is_terminal() {
         let _ = rt.eprint("lfsed: reads from standard input, up to its end (Ctrl-D)\n");
     }
@@ -360,7 +360,7 @@ impl Host for Terminal<'_> {
         let read = if self.closed.is_input() {
             Err(is_closed())
         } else {
-            tell_of_typing(self.rt);
+            announce_typing(self.rt);
             input_of(self.rt, alloc, most)
         };
         read.map_err(|error| {
@@ -426,20 +426,20 @@ impl Host for Terminal<'_> {
     }
 
     fn report<D: Display + Drop>(&mut self, text: D) {
-        self.tell(text);
+        self.write_report(text);
     }
 
     fn report_refused(&mut self, image: &str) {
         match self.subject {
-            Subject::Image => self.say_of(image, self.said.as_ref()),
+            Subject::Image => self.report_error(image, self.said.as_ref()),
             Subject::Journal => {
                 let journal = format_args!("the journal of {image}");
-                self.say_of(journal, self.said.as_ref());
+                self.report_error(journal, self.said.as_ref());
             }
-            Subject::Entry => self.say_of(self.entry.as_str(), self.said.as_ref()),
-            Subject::Making => self.say_of("a file in the new folder", self.said.as_ref()),
-            Subject::Input => self.say_of("standard input", self.said.as_ref()),
-            Subject::Output => self.say_of("standard output", self.out.error()),
+            Subject::Entry => self.report_error(self.entry.as_str(), self.said.as_ref()),
+            Subject::Making => self.report_error("a file in the new folder", self.said.as_ref()),
+            Subject::Input => self.report_error("standard input", self.said.as_ref()),
+            Subject::Output => self.report_error("standard output", self.out.error()),
         }
     }
 }

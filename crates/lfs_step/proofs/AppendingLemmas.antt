@@ -9,24 +9,24 @@ use Rattle.lfs_session.specs.Opened.{RefusesMount, RefusesMounts}
 use Rattle.lfs_session.proofs.OpeningLemmas.{first_refused, later_refused}
 use Rattle.lfs_json.specs.declared.form.Form.{Form}
 use Rattle.lfs_listing.specs.Difference.{difference}
-use Rattle.lfs_step.specs.Between.{TellsAll, TellsOn, images_at, images_behind}
+use Rattle.lfs_step.specs.Between.{AppendsChanges, AppendsLater, images_at, images_behind}
 use Rattle.lfs_step.specs.Log.{change_line, log_behind, history_text_from}
 
 -- nothing is told behind the last image
-pub tells_none : (form : Form) (d : Disk) (m : MountedValue) (ps : List ChangeSet) (at done : ℕ) (old : List ℕ) → images_behind d ps at ≡ []
-    → TellsOn form d m ps at done old old
-tells_none form d m ps at done old none = record {
+pub appends_none : (form : Form) (d : Disk) (m : MountedValue) (ps : List ChangeSet) (at done : ℕ) (old : List ℕ) → images_behind d ps at ≡ []
+    → AppendsLater form d m ps at done old old
+appends_none form d m ps at done old none = record {
   mounts = [];
   are = subst (λ (es : List Disk). AllZip IsMountOf es []) (sym none) tt;
   text = sym (append-nil old) ∙ ap (λ (es : List Disk). old ++ log_behind form (at + 1) done d m es []) (sym none);
 }
 
 -- a change is told, and then those behind it
-pub tells_next : (form : Form) (d e : Disk) (m k : MountedValue) (ps : List ChangeSet) (i j done : ℕ) (old mid new : List ℕ) → j ≡ i + 1
+pub appends_next : (form : Form) (d e : Disk) (m k : MountedValue) (ps : List ChangeSet) (i j done : ℕ) (old mid new : List ℕ) → j ≡ i + 1
     → images_behind d ps i ≡ e ∷ images_behind e ps j → IsMountOf e k
     → mid ≡ old ++ change_line form (i + 1) done ++ difference form d m.rows e k.rows
-    → TellsOn form e k ps j done mid new → TellsOn form d m ps i done old new
-tells_next form d e m k ps i j done old mid new next later mounts line told =
+    → AppendsLater form e k ps j done mid new → AppendsLater form d m ps i done old new
+appends_next form d e m k ps i j done old mid new next later mounts line told =
     let es = images_behind e ps j in
     let rest = log_behind form (j + 1) done e k es told.mounts in
     let change = change_line form (i + 1) done in
@@ -41,16 +41,16 @@ tells_next form d e m k ps i j done old mid new next later mounts line told =
     }
 
 -- all are told from the oldest image on
-pub tells_first : (form : Form) (d : Disk) (m : MountedValue) (ps : List ChangeSet) (at done : ℕ) (old new : List ℕ) → at ≡ 0 → IsMountOf d m
-    → TellsOn form d m ps 0 done old new → TellsAll form d ps at done old new
-tells_first form d m ps at done old new first mounts told =
-    subst (λ (n : ℕ). TellsAll form d ps n done old new) (sym first)
+pub appends_first : (form : Form) (d : Disk) (m : MountedValue) (ps : List ChangeSet) (at done : ℕ) (old new : List ℕ) → at ≡ 0 → IsMountOf d m
+    → AppendsLater form d m ps 0 done old new → AppendsChanges form d ps at done old new
+appends_first form d m ps at done old new first mounts told =
+    subst (λ (n : ℕ). AppendsChanges form d ps n done old new) (sym first)
     (record { mounts = m ∷ told.mounts; are = (mounts, told.are); text = told.text })
 
 -- and so they are from the image before a change
-pub tells_back : (form : Form) (d e : Disk) (ps : List ChangeSet) (i j done : ℕ) (old new : List ℕ) → images_at e ps i ≡ images_at d ps j
-    → TellsAll form e ps i done old new → TellsAll form d ps j done old new
-tells_back form d e ps i j done old new images told = record {
+pub appends_back : (form : Form) (d e : Disk) (ps : List ChangeSet) (i j done : ℕ) (old new : List ℕ) → images_at e ps i ≡ images_at d ps j
+    → AppendsChanges form e ps i done old new → AppendsChanges form d ps j done old new
+appends_back form d e ps i j done old new images told = record {
   mounts = told.mounts;
   are = subst (λ (es : List Disk). AllZip IsMountOf es told.mounts) images told.are;
   text = told.text ∙ ap (λ (es : List Disk). old ++ history_text_from form 1 done es told.mounts) images;

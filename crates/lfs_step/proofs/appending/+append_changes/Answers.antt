@@ -10,23 +10,23 @@ use Rattle.lfs_session.proofs.PlaceLemmas.{IsAt}
 use Rattle.lfs_session.proofs.RoomLemmas.{each_at, room_same}
 use Rattle.lfs_step.specs.Between.{images_at, images_behind}
 use Rattle.lfs_step.proofs.BetweenLemmas.{is_here, back_agrees, goes_back}
-use Rattle.lfs_step.proofs.TellingLemmas.{tells_first, tells_back, first_image_refused}
-use Rattle.lfs_step.proofs.telling.+tell_all.Goals as goal
+use Rattle.lfs_step.proofs.AppendingLemmas.{appends_first, appends_back, first_image_refused}
+use Rattle.lfs_step.proofs.appending.+append_changes.Goals as goal
 
-pub returns-then-at-eq0-clause-told : goal.returns-then-at-eq0-clause-told
-returns-then-at-eq0-clause-told t c =
+pub returns-then-at-eq0-clause-appended : goal.returns-then-at-eq0-clause-appended
+returns-then-at-eq0-clause-appended t c =
     let d = c.args.image.now.disk in
     let m = c.in_ok-mounted.mounted in
     let mounts : IsMountOf d m = search rules in
-    on_ok_weaker c.tell_on.result (tells_first c.args.course.now.form d m c.args.course.now.patches.now c.args.at c.args.course.now.done c.args.text.now.bytes.items
-    c.tell_on.new.text.bytes.items c.if-at-eq0.true mounts) c.tell_on.ensures.told
+    on_ok_weaker c.append_later.result (appends_first c.args.course.now.form d m c.args.course.now.patches.now c.args.at c.args.course.now.done c.args.text.now.bytes.items
+    c.append_later.new.text.bytes.items c.if-at-eq0.true mounts) c.append_later.ensures.appended
 
 pub returns-then-at-eq0-clause-refused : goal.returns-then-at-eq0-clause-refused
 returns-then-at-eq0-clause-refused t c =
     let d = c.args.image.now.disk in
     let ps = c.args.course.now.patches.now in
-    IfErr-weaker c.tell_on.result (λ fault. RefusesMounts fault (images_behind d ps 0)) (λ fault. RefusesMounts fault (images_at d ps c.args.at))
-    (λ fault h. first_image_refused fault d ps c.args.at c.if-at-eq0.true h) c.tell_on.ensures.refused
+    IfErr-weaker c.append_later.result (λ fault. RefusesMounts fault (images_behind d ps 0)) (λ fault. RefusesMounts fault (images_at d ps c.args.at))
+    (λ fault h. first_image_refused fault d ps c.args.at c.if-at-eq0.true h) c.append_later.ensures.refused
 
 pub revert-requires : goal.revert-requires
 revert-requires t c =
@@ -39,8 +39,8 @@ revert-requires t c =
     let at : IsAt ps i j p = is_here ps i j c.index-course-at.result (omega (arith, c.if-at-eq0.false)) (omega (arith, c.if-at-eq0.false)) c.index-course-at.is in
     (back_agrees d ps i j p at c.requires.between).1
 
-pub tell_all-told-requires : goal.tell_all-told-requires
-tell_all-told-requires t c =
+pub append_changes-appended-requires : goal.append_changes-appended-requires
+append_changes-appended-requires t c =
     let d = c.args.image.now.disk in
     let ps = c.args.course.now.patches.now in
     let j = c.args.at in
@@ -72,7 +72,7 @@ apply-requires-clause-agrees t c =
     let within : j ≤ length ps = c.requires.between.within in
     let at : IsAt ps i j p = is_here ps i j c.index-course-at.result (omega (arith, c.if-at-eq0.false)) (omega (arith, c.if-at-eq0.false)) c.index-course-at.is in
     let latest = back_agrees d ps i j p at c.requires.between in
-    let to : c.tell_all-told.new.image.disk ≡ reverted p d = c.tell_all-told.ensures.disk ∙ c.revert.ensures.reverted in
+    let to : c.append_changes-appended.new.image.disk ≡ reverted p d = c.append_changes-appended.ensures.disk ∙ c.revert.ensures.reverted in
     subst (AgreesOld p) (sym to) (c.reverted_patches_apply_again.ensures.agrees p d c.requires.between.disk latest.0.patch latest.1)
 
 pub apply-requires-clause-room : goal.apply-requires-clause-room
@@ -84,7 +84,7 @@ apply-requires-clause-room t c =
     let p = get_or ps i c.index-course-at.result in
     let within : j ≤ length ps = c.requires.between.within in
     let at : IsAt ps i j p = is_here ps i j c.index-course-at.result (omega (arith, c.if-at-eq0.false)) (omega (arith, c.if-at-eq0.false)) c.index-course-at.is in
-    subst (λ (n : ℕ). p.after ≤ n) (sym (c.tell_all-told.ensures.room ∙ c.revert.ensures.room))
+    subst (λ (n : ℕ). p.after ≤ n) (sym (c.append_changes-appended.ensures.room ∙ c.revert.ensures.room))
     (each_at (λ q. q.after ≤ c.args.image.now.room) ps i c.index-course-at.result c.requires.room at.within)
 
 pub returns-clause-disk : goal.returns-clause-disk
@@ -97,11 +97,11 @@ returns-clause-disk t c =
     let within : j ≤ length ps = c.requires.between.within in
     let at : IsAt ps i j p = is_here ps i j c.index-course-at.result (omega (arith, c.if-at-eq0.false)) (omega (arith, c.if-at-eq0.false)) c.index-course-at.is in
     let latest = back_agrees d ps i j p at c.requires.between in
-    let to : c.tell_all-told.new.image.disk ≡ reverted p d = c.tell_all-told.ensures.disk ∙ c.revert.ensures.reverted in
+    let to : c.append_changes-appended.new.image.disk ≡ reverted p d = c.append_changes-appended.ensures.disk ∙ c.revert.ensures.reverted in
     c.apply.ensures.applied ∙ ap (applied p) to ∙ c.reverted_patches_apply_again.ensures.again p d c.requires.between.disk latest.0.patch latest.1
 
-pub returns-clause-told : goal.returns-clause-told
-returns-clause-told t c =
+pub returns-clause-appended : goal.returns-clause-appended
+returns-clause-appended t c =
     let d = c.args.image.now.disk in
     let ps = c.args.course.now.patches.now in
     let j = c.args.at in
@@ -112,8 +112,8 @@ returns-clause-told t c =
     let again = c.reverted_patches_apply_again.ensures in
     let law : TakeBack = record { disk = again.disk; agrees = again.agrees; again = again.again } in
     let to = goes_back law d c.revert.new.image.disk ps i j p at c.requires.between c.revert.ensures.reverted in
-    on_ok_weaker c.tell_all-told.result (tells_back c.args.course.now.form d c.revert.new.image.disk ps i j c.args.course.now.done c.args.text.now.bytes.items
-    c.tell_all-told.new.text.bytes.items to.images) c.tell_all-told.ensures.told
+    on_ok_weaker c.append_changes-appended.result (appends_back c.args.course.now.form d c.revert.new.image.disk ps i j c.args.course.now.done c.args.text.now.bytes.items
+    c.append_changes-appended.new.text.bytes.items to.images) c.append_changes-appended.ensures.appended
 
 pub returns-clause-refused : goal.returns-clause-refused
 returns-clause-refused t c =
@@ -127,5 +127,5 @@ returns-clause-refused t c =
     let again = c.reverted_patches_apply_again.ensures in
     let law : TakeBack = record { disk = again.disk; agrees = again.agrees; again = again.again } in
     let to = goes_back law d c.revert.new.image.disk ps i j p at c.requires.between c.revert.ensures.reverted in
-    IfErr-weaker c.tell_all-told.result (λ fault. RefusesMounts fault (images_at c.revert.new.image.disk ps i))
-    (λ fault. RefusesMounts fault (images_at d ps j)) (λ fault h. subst (RefusesMounts fault) to.images h) c.tell_all-told.ensures.refused
+    IfErr-weaker c.append_changes-appended.result (λ fault. RefusesMounts fault (images_at c.revert.new.image.disk ps i))
+    (λ fault. RefusesMounts fault (images_at d ps j)) (λ fault h. subst (RefusesMounts fault) to.images h) c.append_changes-appended.ensures.refused

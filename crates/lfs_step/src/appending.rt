@@ -1,4 +1,4 @@
-//! Telling changes, one after another.
+//! The lines of changes and what differs, appended one after another.
 
 ghost use Rattle.std.specs.Prelude.{◌≡◌, ◌++◌, false, OnOk, IfErr};
 ghost use Rattle.lfs_block.specs.Disk.{erased_block};
@@ -9,11 +9,11 @@ ghost use Rattle.lfs_session.specs.Known.{HasRoom};
 ghost use Rattle.lfs_session.specs.Opened.{RefusesMounts};
 ghost use Rattle.lfs_listing.specs.Comparing.{Leads};
 ghost use Rattle.lfs_listing.specs.Difference.{difference};
-ghost use Rattle.lfs_step.specs.Between.{IsBetween, TellsAll, TellsOn, images_at, images_behind};
+ghost use Rattle.lfs_step.specs.Between.{IsBetween, AppendsChanges, AppendsLater, images_at, images_behind};
 ghost use Rattle.lfs_step.specs.Log.{change_line};
 
 use crate::course::Course;
-use crate::lines::tell_line;
+use crate::lines::append_line;
 use crate::mounting::mount_image;
 use lfs_block::{
     Image, MountFault, Overlay, Patch, applied_patches_change_their_blocks, applied_patches_revert,
@@ -27,7 +27,7 @@ use lfs_listing::{MountedImage, send_difference};
 use std::alloc::Global;
 
 /// Adds the line of a change, and what differs between the image before it and the one after it.
-fn tell_change(
+fn append_change(
     alloc: Global,
     form: Form,
     number: usize,
@@ -41,12 +41,12 @@ fn tell_change(
     requires first { IsMountOf first.now.disk.now.disk first.now.mounted.now }
     requires second { IsMountOf second.now.disk.now second.now.mounted.now }
     requires between { Leads patch.now first.now.disk.now.disk second.now.disk.now }
-    ensures told { OnOk result (text.new.bytes.items ≡ text.old.bytes.items ++ change_line form number done
+    ensures appended { OnOk result (text.new.bytes.items ≡ text.old.bytes.items ++ change_line form number done
         ++ difference form first.now.disk.now.disk first.now.mounted.now.rows second.now.disk.now second.now.mounted.now.rows) }
     ensures works { OnOk result (text.new.has_failed ≡ false) }
     ensures memory { IfErr result (λ fault. fault ≡ Mount Memory) }
 {
-    if !tell_line(alloc, form, text, number, done) {
+    if !append_line(alloc, form, text, number, done) {
         return Err(OpenFault::Mount(MountFault::Memory));
     }
     match send_difference(
@@ -63,9 +63,9 @@ fn tell_change(
     }
 }
 
-/// Tells the changes behind an image, the nearest first: the image stands behind so many of all, and is mounted. It goes on with
+/// Appends the changes behind an image, the nearest first: the image stands behind so many of all, and is mounted. It goes on with
 /// them, and stands again as it was.
-fn tell_on(
+fn append_later(
     alloc: Global,
     image: &mut Image,
     mounted: &mut Mounted,
@@ -78,7 +78,7 @@ fn tell_on(
     requires room { HasRoom image.old.room course.now.patches.now }
     requires erased { course.now.erased.now ≡ erased_block image.old.disk.size }
     requires works { text.old.has_failed ≡ false }
-    ensures told { OnOk result (TellsOn course.now.form image.old.disk mounted.old course.now.patches.now at course.now.done
+    ensures appended { OnOk result (AppendsLater course.now.form image.old.disk mounted.old course.now.patches.now at course.now.done
         text.old.bytes.items text.new.bytes.items) }
     ensures refused { IfErr result (λ fault. RefusesMounts fault (images_behind image.old.disk course.now.patches.now at)) }
     ensures disk { image.new.disk ≡ image.old.disk }
@@ -100,7 +100,7 @@ fn tell_on(
         disk: &after,
         mounted: &next,
     };
-    tell_change(
+    append_change(
         alloc,
         course.form,
         at + 1,
@@ -112,14 +112,14 @@ fn tell_on(
     )?;
     *mounted = next;
     patch.apply(image);
-    let told = tell_on(alloc, image, mounted, course, at + 1, text);
+    let appended = append_later(alloc, image, mounted, course, at + 1, text);
     patch.revert(image);
-    told
+    appended
 }
 
-/// Tells all changes, the oldest first: the image stands behind so many of them. It goes back to the oldest, and stands again as
+/// Appends all changes, the oldest first: the image stands behind so many of them. It goes back to the oldest, and stands again as
 /// it was.
-pub(crate) fn tell_all(
+pub(crate) fn append_changes(
     alloc: Global,
     image: &mut Image,
     course: &Course<'_>,
@@ -130,7 +130,7 @@ pub(crate) fn tell_all(
     requires room { HasRoom image.old.room course.now.patches.now }
     requires erased { course.now.erased.now ≡ erased_block image.old.disk.size }
     requires works { text.old.has_failed ≡ false }
-    ensures told { OnOk result (TellsAll course.now.form image.old.disk course.now.patches.now at course.now.done
+    ensures appended { OnOk result (AppendsChanges course.now.form image.old.disk course.now.patches.now at course.now.done
         text.old.bytes.items text.new.bytes.items) }
     ensures refused { IfErr result (λ fault. RefusesMounts fault (images_at image.old.disk course.now.patches.now at)) }
     ensures disk { image.new.disk ≡ image.old.disk }
@@ -139,11 +139,11 @@ pub(crate) fn tell_all(
     reverted_patches_apply_again();
     if at == 0 {
         let mut mounted = mount_image(alloc, image)?;
-        return tell_on(alloc, image, &mut mounted, course, 0, text);
+        return append_later(alloc, image, &mut mounted, course, 0, text);
     }
     let patch = &course.patches[at - 1];
     patch.revert(image);
-    let told = tell_all(alloc, image, course, at - 1, text);
+    let appended = append_changes(alloc, image, course, at - 1, text);
     patch.apply(image);
-    told
+    appended
 }
