@@ -16,6 +16,11 @@ command_by f g (case.SetAttr path kind value) = SetAttr (f path) kind (g value)
 command_by f g (case.RmAttr path kind) = RmAttr (f path) kind
 command_by f g (case.Grow count) = Grow count
 
+-- the command that makes a file of these contents, or a directory where there are none
+abbrev pub making_said : {P B : Type 0} → P → Option B → Written P B
+making_said path (Some bytes) = case.Put path bytes
+making_said path None = case.Mkdir path
+
 -- the path that it is about, of a move the one that is left
 abbrev pub path_said : {P B : Type 0} → Written P B → Option P
 path_said (case.Mkdir path) = Some path

@@ -59,7 +59,17 @@ pub type Named<'a> = Command<Vec<&'a [u8]>, &'a [u8]>;
 impl<P, B> Command<P, B> {
     ghost use Rattle.std.specs.Prelude.{◌≡◌};
     ghost use Rattle.std.specs.Option.{option_map};
-    ghost use Rattle.lfs_command.specs.AskedFor.{path_said, target_said};
+    ghost use Rattle.lfs_command.specs.AskedFor.{making_said, path_said, target_said};
+
+    /// The command that makes a file of these contents, or a directory where there are none.
+    pub fn making(path: P, bytes: Option<B>) -> Command<P, B>
+        ensures { result ≡ making_said path bytes }
+    {
+        match bytes {
+            Some(bytes) => Command::Put { path, bytes },
+            None => Command::Mkdir { path },
+        }
+    }
 
     /// The path that it is about; of a move the one that is left.
     pub fn path(&self) -> Option<&P>

@@ -24,6 +24,7 @@ use Rattle.lfs_command.specs.Command.{Mkdir, Put, SetAttr, RmAttr}
 use Rattle.lfs_command.specs.declared.command.Command.TheVariants as case
 use Rattle.lfs_command.specs.DirectoryEdit.{absorb, change_in, link_in, touch_last, unlink_in}
 use Rattle.lfs_command.specs.Edited.{drop_target, make_directory, move_entry, put_file, remove_entry, set_attributes}
+use Rattle.lfs_command.specs.Leading.{path_of}
 use Rattle.lfs_command.specs.Edited.{empty_directory, new_entry, renamed, with_body, with_entry_attributes}
 use Rattle.lfs_command.specs.Parent.{parent_of}
 use Rattle.lfs_command.specs.Supplies.{Supplies, new_body}
@@ -262,23 +263,18 @@ unset_front o p kind n s front clean =
     (clean_set o (remove_attribute kind) (parent_of o p) front.before front.none clean)
 
 -- what is about one path, and not removed or moved
-pub one_front : (o : Volume) (command : OnNames) (path : Vec (Bor Name)) (n : ℕ)
-    → (command ≡ case.Mkdir path) ⊎ (((bytes : Bor (List ℕ)) × (command ≡ case.Put path bytes))
-    ⊎ (((kind : ℕ) × (value : Bor (List ℕ)) × (command ≡ case.SetAttr path kind value)) ⊎ ((kind : ℕ) × (command ≡ case.RmAttr path kind))))
-    → IsFrontOf o (map (λ n. n.now) path.items) n → (s : Supplies) → IsClean o
+pub one_front : (o : Volume) (command : OnNames) (n : ℕ) → ((path : Vec (Bor Name)) → command ≡ case.Rm path → ⊥)
+    → ((from to : Vec (Bor Name)) → command ≡ case.Mv from to → ⊥) → ((count : ℕ) → command ≡ case.Grow count → ⊥)
+    → IsFrontOf o (path_of (named_command command)) n → (s : Supplies) → IsClean o
     → IsCleanFrom n (edited_outline o (named_command command) s).directories
-one_front o command path n (inl is) front s clean =
-    subst (λ (x : OnNames). IsCleanFrom n (edited_outline o (named_command x) s).directories) (sym is)
-    (make_front o (map (λ n. n.now) path.items) n s front clean)
-one_front o command path n (inr (inl is)) front s clean =
-    subst (λ (x : OnNames). IsCleanFrom n (edited_outline o (named_command x) s).directories) (sym is.1)
-    (put_front o (map (λ n. n.now) path.items) is.0.now n s front clean)
-one_front o command path n (inr (inr (inl is))) front s clean =
-    subst (λ (x : OnNames). IsCleanFrom n (edited_outline o (named_command x) s).directories) (sym is.2)
-    (set_front o (map (λ n. n.now) path.items) is.0 is.1.now n s front clean)
-one_front o command path n (inr (inr (inr is))) front s clean =
-    subst (λ (x : OnNames). IsCleanFrom n (edited_outline o (named_command x) s).directories) (sym is.1)
-    (unset_front o (map (λ n. n.now) path.items) is.0 n s front clean)
+one_front o (case.Mkdir path) n rm mv grow front s clean = make_front o (map (λ n. n.now) path.items) n s front clean
+one_front o (case.Put path bytes) n rm mv grow front s clean = put_front o (map (λ n. n.now) path.items) bytes.now n s front clean
+one_front o (case.Rm path) n rm mv grow front s clean = absurd (rm path refl)
+one_front o (case.Mv from to) n rm mv grow front s clean = absurd (mv from to refl)
+one_front o (case.SetAttr path kind value) n rm mv grow front s clean =
+    set_front o (map (λ n. n.now) path.items) kind value.now n s front clean
+one_front o (case.RmAttr path kind) n rm mv grow front s clean = unset_front o (map (λ n. n.now) path.items) kind n s front clean
+one_front o (case.Grow count) n rm mv grow front s clean = absurd (grow count refl)
 
 -- what may set any
 pub any_front : (o : Volume) (command : OnNames) (n : ℕ) → n ≡ length o.directories

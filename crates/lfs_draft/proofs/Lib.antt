@@ -14,3 +14,4 @@ pub mod ReachSteps
 pub mod FreeingLemmas
 pub mod LastNames
 pub mod FrontLemmas
+pub mod SaidPaths

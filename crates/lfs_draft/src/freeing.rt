@@ -142,11 +142,7 @@ fn list_freed(
     match command {
         Command::Put { path, .. } => list_replaced(blocks, outline, path),
         Command::Rm { path } => list_removed(blocks, outline, path),
-        Command::Mkdir { .. }
-        | Command::Mv { .. }
-        | Command::SetAttr { .. }
-        | Command::RmAttr { .. }
-        | Command::Grow { .. } => Ok(()),
+        _ => Ok(()),
     }
 }
 

@@ -37,10 +37,10 @@ pub fn count_in_front(outline: &Outline, command: &Named<'_>) -> usize
         → All (λ p. p.dirty ≡ false) (thread (drop result (edited_outline outline.now (named_command command.now) s).directories)) }
 {
     match command {
-        Command::Mkdir { path }
-        | Command::Put { path, .. }
-        | Command::SetAttr { path, .. }
-        | Command::RmAttr { path, .. } => front_of(outline, path),
         Command::Rm { .. } | Command::Mv { .. } | Command::Grow { .. } => outline.directories.len(),
+        _ => match command.path() {
+            Some(path) => front_of(outline, path),
+            None => outline.directories.len(),
+        },
     }
 }

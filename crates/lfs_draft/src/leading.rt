@@ -7,12 +7,12 @@ ghost use Rattle.lfs_fs.specs.Sound.{Rise};
 ghost use Rattle.lfs_draft.specs.Editable.{NamesRise};
 ghost use Rattle.lfs_command.specs.AskedFor.{named_command};
 ghost use Rattle.lfs_command.specs.DirectoryEdit.{has_name};
-ghost use Rattle.lfs_command.specs.Leading.{leading_pair, pair_in, path_of};
+ghost use Rattle.lfs_command.specs.Leading.{leading_pair, pair_in};
 
 use crate::directory_edit::has_name;
 use crate::last_names::{comes_last, last_part};
 use crate::parent::parent_of;
-use lfs_command::{Command, Named};
+use lfs_command::Named;
 use lfs_fs::{Outline, OutlineDirectory, OutlinePart, directory_at, names_are_ordered};
 
 /// The first of these parts that has an entry of a name.
@@ -52,27 +52,13 @@ fn pair_in(directory: &OutlineDirectory, name: &[u8]) -> Option<(u32, u32)>
     Some(part.pair)
 }
 
-/// The path of a command; of a move the one from which; where there is none, the root's.
-fn path_of<'b, 'a>(command: &'b Named<'a>) -> &'b [&'a [u8]]
-    ensures { map (λ n. n.now) result.now ≡ path_of (named_command command.now) }
-{
-    match command {
-        Command::Mkdir { path }
-        | Command::Put { path, .. }
-        | Command::Rm { path }
-        | Command::SetAttr { path, .. }
-        | Command::RmAttr { path, .. } => path,
-        Command::Mv { from, .. } => from,
-        Command::Grow { .. } => &[],
-    }
-}
-
 /// The pair of the part that has the entry at a command's path; none where nothing is there.
 pub fn leading_pair(outline: &Outline, command: &Named<'_>) -> Option<(u32, u32)>
     requires { NamesRise outline.now.directories }
     ensures { result ≡ leading_pair outline.now (named_command command.now) }
 {
-    let parent = parent_of(outline, path_of(command)).ok()?;
+    let path = command.path()?;
+    let parent = parent_of(outline, path).ok()?;
     let directory = directory_at(&outline.directories, parent.pair)?;
     pair_in(directory, parent.name)
 }

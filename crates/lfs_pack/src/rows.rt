@@ -59,10 +59,7 @@ fn set_attributes(
 fn making<'a>(path: Vec<&'a [u8]>, bytes: Option<&'a [u8]>) -> Named<'a>
     ensures { named_command result ≡ made_by (map (λ n. n.now) path.entry.items) (option_map (λ b. b.now) bytes.entry) }
 {
-    match bytes {
-        Some(bytes) => Command::Put { path, bytes },
-        None => Command::Mkdir { path },
-    }
+    Command::making(path, bytes)
 }
 
 /// Makes what a row has at its path: a directory, or a file. The root is there.

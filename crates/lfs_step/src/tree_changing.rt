@@ -187,9 +187,9 @@ fn with_command(alloc: Global, plan: &[Planned], outcome: Outcome) -> Outcome
 fn command_text(alloc: Global, plan: &[Planned], at: usize) -> Option<Vec<u8>> {
     let planned = plan.get(at)?;
     let verb: &[u8] = match planned.kind {
-        PlannedKind::Rm => b"rm ",
-        PlannedKind::Mkdir => b"mkdir ",
-        PlannedKind::Put(_) => b"put ",
+        PlannedKind::Removal => b"rm ",
+        PlannedKind::Directory => b"mkdir ",
+        PlannedKind::File(_) => b"put ",
     };
     let mut text = Vec::from_slice(alloc, verb).ok()?;
     text.extend_from_slice(&planned.text).ok()?;

@@ -39,7 +39,7 @@ texts_end commands c = map-append (on_paths path_text) commands (c ∷ [])
 -- ---- directories with their parents
 
 module _ (d : Disk) (m : MountedValue) (is : IsMountOf d m) (rows : List SyncRow) (text : List ℕ) (p : Path) (spelled : IsPathText text p) where
-  pub make_none : is_directory (tree m.outline p) ≡ true → IsPlanOf text kind.Mkdir (make_commands (tree is.volume)) rows []
+  pub make_none : is_directory (tree m.outline p) ≡ true → IsPlanOf text kind.Directory (make_commands (tree is.volume)) rows []
   make_none there =
       inl (
         p,
@@ -50,7 +50,7 @@ module _ (d : Disk) (m : MountedValue) (is : IsMountOf d m) (rows : List SyncRow
 
   pub make_some : is_directory (tree m.outline p) ≡ false → (asked : List Asked)
       → asked ≡ in_texts (lacking (tree m.outline) [] p) ++ Mkdir (path_text p) ∷ []
-      → IsPlanOf text kind.Mkdir (make_commands (tree is.volume)) rows asked
+      → IsPlanOf text kind.Directory (make_commands (tree is.volume)) rows asked
   make_some none asked planned =
       inl (
         p,
@@ -64,7 +64,7 @@ module _ (d : Disk) (m : MountedValue) (is : IsMountOf d m) (rows : List SyncRow
 
   pub put_some : (asked : List Asked)
       → asked ≡ in_texts (lacking (tree m.outline) [] p) ++ Put (path_text p) (unwrap_or (bytes_at rows 0) []) ∷ []
-      → IsPlanOf text (kind.Put 0) (λ (path : Path). put_commands (tree is.volume) path (unwrap_or (bytes_at rows 0) [])) rows asked
+      → IsPlanOf text (kind.File 0) (λ (path : Path). put_commands (tree is.volume) path (unwrap_or (bytes_at rows 0) [])) rows asked
   put_some asked planned =
       inl (
         p,
@@ -83,7 +83,7 @@ remove_is (n ∷ p) (r ∷ rs) some' more = refl
 
 pub remove_all : (text : List ℕ) (p : Path) (rows : List SyncRow) (held : Path → List Shown) (left : List Shown) (asked : List Asked)
     → IsPathText text p → p ≢ [] → left ≡ held p → left ≢ [] → asked ≡ in_texts (removals p left [])
-    → IsPlanOf text kind.Rm (λ (path : Path). remove_commands path (held path)) rows asked
+    → IsPlanOf text kind.Removal (λ (path : Path). remove_commands path (held path)) rows asked
 remove_all text p rows held left asked spelled some' are more planned =
     inl (p, spelled, planned ∙ ap in_texts (sym (remove_is p left some' more)) ∙ ap (λ (l : List Shown). in_texts (remove_commands p l)) are)
 
@@ -109,7 +109,7 @@ sync_joined at rows m held wanted plan merged is =
 
 pub sync_all : (text : List ℕ) (p : Path) (rows : List SyncRow) (shown : Path → List Shown) (held left wanted : List Shown)
     (plan : List Planned) → IsPathText text p → held ≡ shown p → left ≡ wanted → plan_asked rows plan ≡ in_texts (sync_commands p held left)
-    → IsPlanOf text kind.Mkdir (λ (path : Path). sync_commands path (shown path) wanted) rows (plan_asked rows plan)
+    → IsPlanOf text kind.Directory (λ (path : Path). sync_commands path (shown path) wanted) rows (plan_asked rows plan)
 sync_all text p rows shown held left wanted plan spelled are same planned =
     inl (
       p,

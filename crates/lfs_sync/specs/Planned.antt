@@ -11,9 +11,9 @@ use Rattle.lfs_sync.specs.declared.sync_row.SyncRow.{SyncRow}
 
 -- what is asked for at a path: of the row at a place its contents are put, of none nothing
 abbrev pub kind_asked : List SyncRow → List ℕ → PlannedKind → Asked
-kind_asked rows text kind.Rm = Rm text
-kind_asked rows text kind.Mkdir = Mkdir text
-kind_asked rows text (kind.Put place) = Put text (unwrap_or (bytes_at rows place) [])
+kind_asked rows text kind.Removal = Rm text
+kind_asked rows text kind.Directory = Mkdir text
+kind_asked rows text (kind.File place) = Put text (unwrap_or (bytes_at rows place) [])
 
 -- the command that is asked for, over the rows
 abbrev pub planned_asked : List SyncRow → Planned → Asked

@@ -24,9 +24,9 @@ fn command_of<'a>(planned: &'a Planned, rows: &[SyncRow<'a>]) -> Asked<'a>
 {
     let path = planned.text.as_slice();
     match planned.kind {
-        PlannedKind::Rm => Command::Rm { path },
-        PlannedKind::Mkdir => Command::Mkdir { path },
-        PlannedKind::Put(place) => {
+        PlannedKind::Removal => Command::Rm { path },
+        PlannedKind::Directory => Command::Mkdir { path },
+        PlannedKind::File(place) => {
             let bytes = bytes_at(rows, place).unwrap_or(&[]);
             Command::Put { path, bytes }
         }

@@ -6,13 +6,12 @@ ghost use Rattle.lfs_block.specs.Disk.{Disk};
 ghost use Rattle.lfs_command.specs.Verdict.{is_directory};
 ghost use Rattle.lfs_fs.specs.Mounted.{IsMountOf};
 ghost use Rattle.lfs_fs.specs.Path.{path_text};
-ghost use Rattle.lfs_fs.specs.Tree.{tree};
-ghost use Rattle.lfs_command.specs.Command.{Mkdir};
+ghost use Rattle.lfs_fs.specs.Tree.{Dir, tree};
 ghost use Rattle.lfs_sync.specs.Merging.{if_so};
 ghost use Rattle.lfs_sync.specs.Planned.{IsPlanOf, in_texts, kind_asked, plan_asked};
 ghost use Rattle.lfs_listing.specs.Below.{names};
 ghost use Rattle.lfs_sync.specs.SyncRows.{bytes_at};
-ghost use Rattle.lfs_sync.specs.Synced.{lacking, make_commands, put_commands};
+ghost use Rattle.lfs_sync.specs.Synced.{lacking, make_commands, making_node, put_commands};
 ghost use Rattle.lfs_sync.specs.declared.planned.PlannedKind.TheVariants as kind;
 ghost use Rattle.lfs_sync.specs.declared.sync_row.SyncRow.{SyncRow};
 
@@ -60,12 +59,12 @@ fn plan_parent(
     prefix: &[&[u8]],
 ) -> Result<(), AllocError>
     ensures { OnOk result ((rows : List SyncRow) → plan_asked rows plan.new.items ≡ plan_asked rows plan.old.items
-        ++ in_texts (if_so (not (is_some (tree mounted.now.outline (names prefix.now)))) (Mkdir (names prefix.now)))) }
+        ++ in_texts (if_so (not (is_some (tree mounted.now.outline (names prefix.now)))) (making_node (names prefix.now) (Dir [])))) }
 {
     if is_there(alloc, mounted, prefix)? {
         return Ok(());
     }
-    let directory = planned(alloc, prefix, &[], PlannedKind::Mkdir)?;
+    let directory = planned(alloc, prefix, &[], PlannedKind::Directory)?;
     plan.push(directory)?;
     Ok(())
 }
@@ -102,26 +101,26 @@ fn with_parents(
 /// there. A file that is there is refused as by `mkdir`, and so is a text that spells no path. Want of memory is the only refusal.
 pub fn make_plan(alloc: Global, mounted: &Mounted, at: &[u8]) -> Result<Vec<Planned>, AllocError>
     ensures { IfOk result (λ plan. (d : Disk) (is : IsMountOf d mounted.now) (rows : List SyncRow)
-        → IsPlanOf at.now kind.Mkdir (make_commands (tree is.volume)) rows (plan_asked rows plan.items)) }
+        → IsPlanOf at.now kind.Directory (make_commands (tree is.volume)) rows (plan_asked rows plan.items)) }
 {
     let Some(names) = names_in(alloc, at)? else {
-        return alone(alloc, at, PlannedKind::Mkdir);
+        return alone(alloc, at, PlannedKind::Directory);
     };
     if is_directory(alloc, mounted, &names)? {
         return Ok(Vec::new(alloc));
     }
-    with_parents(alloc, mounted, &names, PlannedKind::Mkdir)
+    with_parents(alloc, mounted, &names, PlannedKind::Directory)
 }
 
 /// The commands that put a file of an image, which gets the contents of the first row, and make its parents that lack, the first of them
 /// first. A text that spells no path is refused as by `put`. Want of memory is the only refusal.
 pub fn put_plan(alloc: Global, mounted: &Mounted, at: &[u8]) -> Result<Vec<Planned>, AllocError>
     ensures { IfOk result (λ plan. (d : Disk) (is : IsMountOf d mounted.now) (rows : List SyncRow)
-        → IsPlanOf at.now (kind.Put 0) (λ path. put_commands (tree is.volume) path (unwrap_or (bytes_at rows 0) [])) rows
+        → IsPlanOf at.now (kind.File 0) (λ path. put_commands (tree is.volume) path (unwrap_or (bytes_at rows 0) [])) rows
         (plan_asked rows plan.items)) }
 {
     let Some(names) = names_in(alloc, at)? else {
-        return alone(alloc, at, PlannedKind::Put(0));
+        return alone(alloc, at, PlannedKind::File(0));
     };
-    with_parents(alloc, mounted, &names, PlannedKind::Put(0))
+    with_parents(alloc, mounted, &names, PlannedKind::File(0))
 }

@@ -89,7 +89,7 @@ impl Merging {
         if !goes {
             return Ok(());
         }
-        let removal = planned(alloc, at, &row.path, PlannedKind::Rm)?;
+        let removal = planned(alloc, at, &row.path, PlannedKind::Removal)?;
         self.removed.push(removal)?;
         Ok(())
     }
@@ -110,11 +110,11 @@ impl Merging {
             return Ok(());
         }
         if bytes_at(rows, row.place).is_some() {
-            let file = planned(alloc, at, &row.path, PlannedKind::Put(row.place))?;
+            let file = planned(alloc, at, &row.path, PlannedKind::File(row.place))?;
             self.files.push(file)?;
             return Ok(());
         }
-        let directory = planned(alloc, at, &row.path, PlannedKind::Mkdir)?;
+        let directory = planned(alloc, at, &row.path, PlannedKind::Directory)?;
         self.directories.push(directory)?;
         Ok(())
     }

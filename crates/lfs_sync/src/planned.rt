@@ -4,11 +4,11 @@
 #[derive(Clone, Copy, Drop)]
 pub enum PlannedKind {
     /// What stands there is removed.
-    Rm,
+    Removal,
     /// A directory is made.
-    Mkdir,
+    Directory,
     /// A file's contents are put: those of the row at this place.
-    Put(usize),
+    File(usize),
 }
 
 /// A command that is planned, which keeps the text of its path.

@@ -7,7 +7,7 @@ ghost use Rattle.lfs_sync.specs.Shown.{held_of};
 ghost use Rattle.lfs_listing.specs.Below.{names};
 ghost use Rattle.lfs_sync.specs.Sides.{held_all};
 ghost use Rattle.lfs_sync.specs.Synced.{removals, remove_commands};
-ghost use Rattle.lfs_sync.specs.declared.planned.PlannedKind.TheVariants.{Rm};
+ghost use Rattle.lfs_sync.specs.declared.planned.PlannedKind.TheVariants as kind;
 ghost use Rattle.lfs_sync.specs.declared.sync_row.SyncRow.{SyncRow};
 
 use crate::held_row::HeldRow;
@@ -29,7 +29,7 @@ fn removals_of(
 {
     let mut plan = Vec::new(alloc);
     'each: for row in held {
-        plan.push(planned(alloc, at, &row.path, PlannedKind::Rm)?)?;
+        plan.push(planned(alloc, at, &row.path, PlannedKind::Removal)?)?;
     }
     plan.reverse();
     Ok(plan)
@@ -39,17 +39,17 @@ fn removals_of(
 /// have one command, which is refused as by `rm`; and so has a text that spells no path. Want of memory is the only refusal.
 pub fn remove_plan(alloc: Global, mounted: &Mounted, at: &[u8]) -> Result<Vec<Planned>, AllocError>
     ensures { IfOk result (λ plan. (d : Disk) (rows : List SyncRow)
-        → IsPlanOf at.now Rm (λ path. remove_commands path (held_of d path mounted.now.rows)) rows (plan_asked rows plan.items)) }
+        → IsPlanOf at.now kind.Removal (λ path. remove_commands path (held_of d path mounted.now.rows)) rows (plan_asked rows plan.items)) }
 {
     let Some(names) = names_in(alloc, at)? else {
-        return alone(alloc, at, PlannedKind::Rm);
+        return alone(alloc, at, PlannedKind::Removal);
     };
     if names.is_empty() {
-        return alone(alloc, at, PlannedKind::Rm);
+        return alone(alloc, at, PlannedKind::Removal);
     }
     let held = held_rows(alloc, mounted.rows(), &names)?;
     if held.is_empty() {
-        return alone(alloc, at, PlannedKind::Rm);
+        return alone(alloc, at, PlannedKind::Removal);
     }
     removals_of(alloc, &names, &held)
 }

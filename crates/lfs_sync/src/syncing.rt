@@ -9,7 +9,7 @@ ghost use Rattle.lfs_listing.specs.Below.{names};
 ghost use Rattle.lfs_sync.specs.Sides.{CanBeRead, held_all, wanted_all};
 ghost use Rattle.lfs_sync.specs.SyncRows.{AreRowsOfFolder, SayFolder};
 ghost use Rattle.lfs_sync.specs.Synced.{sync_commands};
-ghost use Rattle.lfs_sync.specs.declared.planned.PlannedKind.TheVariants.{Mkdir};
+ghost use Rattle.lfs_sync.specs.declared.planned.PlannedKind.TheVariants as kind;
 
 use crate::held_row::HeldRow;
 use crate::holding::held_rows;
@@ -94,13 +94,13 @@ pub fn sync_plan<B: Blocks>(
     requires mounted { IsMountOf (B.disk disk.now) mounted.now }
     requires rows { SayFolder rows.now }
     ensures { IfOk result (λ plan. (wanted : List Shown) → AreRowsOfFolder rows.now wanted
-        → IsPlanOf at.now Mkdir (λ path. sync_commands path (held_of (B.disk disk.now) path mounted.now.rows) wanted) rows.now
+        → IsPlanOf at.now kind.Directory (λ path. sync_commands path (held_of (B.disk disk.now) path mounted.now.rows) wanted) rows.now
         (plan_asked rows.now plan.items)) }
 {
     rows_show_the_tree();
     let _size = disk.size();
     let Some(names) = names_in(alloc, at)? else {
-        return alone(alloc, at, PlannedKind::Mkdir);
+        return alone(alloc, at, PlannedKind::Directory);
     };
     let held = held_rows(alloc, mounted.rows(), &names)?;
     let wanted = wanted_rows(alloc, rows)?;

@@ -20,7 +20,7 @@ returns-then-branch c d is rows =
     let there =
     ap (λ (l : List (Bor Name)). is_directory (tree c.args.mounted.now.outline (names l))) (sym c.deref.ensures.value)
     ∙ sym c.in_ok-is_directory.ensures ∙ c.if-branch.true in
-    subst (λ (l : List Planned). IsPlanOf c.args.at.now kind.Mkdir (make_commands (tree is.volume)) rows (plan_asked rows l)) (sym c.new.ensures.items)
+    subst (λ (l : List Planned). IsPlanOf c.args.at.now kind.Directory (make_commands (tree is.volume)) rows (plan_asked rows l)) (sym c.new.ensures.items)
     (make_none d c.args.mounted.now is rows c.args.at.now (names ns) spelled there)
 
 pub returns : goal.returns
