@@ -12,6 +12,7 @@ pub mod Edited
 pub mod Cut
 pub mod Need
 pub mod Verdict
+pub mod PathRefused
 pub mod Clean
 pub mod Accepted
 pub mod Kept

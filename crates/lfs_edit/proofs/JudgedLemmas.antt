@@ -65,8 +65,8 @@ use Rattle.lfs_law.proofs.FreeBlocks.{taken_unused}
 use Rattle.lfs_law.proofs.GrowFollows.{grown_sound}
 use Rattle.lfs_law.proofs.Parents.{first_passes, test_passes}
 use Rattle.lfs_law.proofs.PartsFit.{not_root}
-use Rattle.lfs_edit.proofs.VerdictKinds.{refuses}
-use Rattle.lfs_edit.proofs.Verdicts.{refused_first, passed_first}
+use Rattle.lfs_law.proofs.VerdictKinds.{refuses}
+use Rattle.lfs_law.proofs.Verdicts.{refused_first, passed_first}
 
 -- ---- checks that refuse
 

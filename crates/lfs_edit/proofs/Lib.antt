@@ -1,6 +1,4 @@
 pub mod FormatLemmas
-pub mod Verdicts
-pub mod VerdictKinds
 pub mod OrderLemmas
 pub mod Supplied
 pub mod CarryingLemmas

@@ -41,7 +41,7 @@ use Rattle.lfs_command.specs.Supplies.{Supplies}
 use Rattle.lfs_law.specs.SuperblockBytes.{volume_bytes}
 use Rattle.lfs_law.specs.WrittenLinks.{AreWritten, ChangesLinks, changed_blocks, number_in}
 use Rattle.lfs_edit.proofs.CarryingLemmas.{IsLong, IsTaken, taken_of, within_need}
-use Rattle.lfs_edit.proofs.Verdicts.{front_passes}
+use Rattle.lfs_law.proofs.Verdicts.{front_passes}
 use Rattle.lfs_law.proofs.FreeBlocks.{taken_below, taken_rise}
 use Rattle.lfs_law.proofs.FrugalPlans.{changed_named, enough_free, one_is}
 use Rattle.lfs_law.proofs.KeptPatches.{grown_agrees, grown_growth, grown_patch}

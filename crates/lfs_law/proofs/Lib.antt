@@ -84,3 +84,6 @@ pub mod HeldBytes
 pub mod MadeBytes
 pub mod CarriedFollow
 pub mod TablesFollow
+pub mod Verdicts
+pub mod VerdictKinds
+pub mod PathsRefused

@@ -30,7 +30,7 @@ use Rattle.lfs_law.proofs.FrugalPlans.{enough_free}
 use Rattle.lfs_law.proofs.Parents.{first_passes, test_passes}
 use Rattle.lfs_law.proofs.PartsFit.{checks_pass}
 use Rattle.lfs_law.proofs.WrittenLemmas.{times_there}
-use Rattle.lfs_edit.proofs.Verdicts.{front_passes, passed_first}
+use Rattle.lfs_law.proofs.Verdicts.{front_passes, passed_first}
 use Rattle.lfs_pack.specs.Laws.{IsLeastOf, LeastCountsAreLeast}
 use Rattle.lfs_pack.specs.Least.{IsLeastCount, most_count}
 use Rattle.lfs_pack.specs.Packed.{ArePackable, Packed, commands}

@@ -6,7 +6,7 @@ use lfs_block::{Image, MountFault};
 use lfs_survey::fault_place;
 use std::alloc::Global;
 
-/// What is told behind a fault for which an image doesn't mount: its first place, whose line is put into `beside`, or what is told as
+/// What is told behind a fault for which an image doesn't mount: its first place, whose line is put into `context`, or what is told as
 /// usual, where there is no such place, or where the image states something in front, and that isn't read. Takes memory, and tells of no
 /// place where it is refused.
 pub(crate) fn statement_at(

@@ -72,7 +72,7 @@ fn is_of_step(fault: Fault) -> bool
     }
 }
 
-/// Why a script is refused; where a line of its text is, with that in `beside`. Takes memory, and tells of no line where there is none.
+/// Why a script is refused; where a line of its text is, with that in `context`. Takes memory, and tells of no line where there is none.
 pub fn with_line(alloc: Global, text: &[u8], context: &mut Context, stop: Stop) -> Stop
     ensures { result.fault ≡ stop.fault }
 {

@@ -12,7 +12,7 @@ use lfs_pack::PackRow;
 use lfs_request::Fault;
 use std::alloc::Global;
 
-/// Why packing rows ended early; where that is for one of them, with what is said of it, and with the text of its path in `beside`.
+/// Why packing rows ended early; where that is for one of them, with what is said of it, and with the text of its path in `context`.
 /// Takes memory, and tells of no row where it is refused.
 pub fn with_row(
     alloc: Global,

@@ -26,7 +26,7 @@ pub fn stop_of_source_bytes(fault: ImageFault, size: u32, bytes: &[u8]) -> Stop
 }
 
 /// Why the image that a new one is made of didn't mount, with what it states, or with the place of its fault, whose text is put into
-/// `beside`; `seen` is what was seen of its bytes. Takes memory, and tells of nothing more where it is refused.
+/// `context`; `seen` is what was seen of its bytes. Takes memory, and tells of nothing more where it is refused.
 pub fn stop_of_source(
     alloc: Global,
     fault: MountFault,

@@ -28,7 +28,7 @@ pub fn stop_of_image(fault: Fault, size: u32, bytes: &[u8]) -> Stop
     }
 }
 
-/// Why a step that was run for a request ended early, with what its image states, the place of its fault, whose text is put into `beside`,
+/// Why a step that was run for a request ended early, with what its image states, the place of its fault, whose text is put into `context`,
 /// what is known of its path there, or what its journal has; `seen` is what was seen of the step before. Takes memory, and tells of
 /// nothing more where it is refused.
 pub fn stop_of_run(
@@ -61,7 +61,7 @@ pub fn stop_of_run(
     }
 }
 
-/// What is known of a refusal: which command of a plan it was, whose text is put into `beside`, or what is known of its path.
+/// What is known of a refusal: which command of a plan it was, whose text is put into `context`, or what is known of its path.
 fn refused_statement(
     alloc: Global,
     operation: &Operation<'_>,
@@ -81,7 +81,7 @@ fn refused_statement(
 }
 
 /// Why a folder wasn't made of an image for an operation, with what that states, with the place of its fault, whose text is put into
-/// `beside`, or with what is known of the operation's path at its place. Takes memory, and tells of nothing more where it is refused.
+/// `context`, or with what is known of the operation's path at its place. Takes memory, and tells of nothing more where it is refused.
 pub fn stop_of_extracting(
     alloc: Global,
     operation: &Operation<'_>,

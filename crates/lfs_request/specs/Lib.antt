@@ -5,3 +5,4 @@ pub mod Query
 pub mod SaidLimits
 pub mod Operation
 pub mod View
+pub mod Standing

@@ -13,6 +13,7 @@ mod query;
 mod request;
 mod said_limits;
 mod source_image;
+mod standing;
 mod tree_change;
 mod view;
 
@@ -28,5 +29,6 @@ pub use query::Query;
 pub use request::Request;
 pub use said_limits::SaidLimits;
 pub use source_image::SourceImage;
+pub use standing::{names_of_directory, names_there};
 pub use tree_change::TreeChange;
 pub use view::View;

@@ -1,7 +1,6 @@
 -- What is packed of a host's folder: rows that say what is below it.
-use Rattle.std.proofs.Common.{◌≡◌, ℕ, List, [], ◌∷◌, ◌++◌, Option, Some, None, true, All, map, length, drop, get_or, refl, sym, ap, subst, ◌∙◌, arith}
+use Rattle.std.proofs.Common.{◌≡◌, ℕ, List, [], ◌∷◌, Option, Some, None, true, All, map, length, drop, get_or, refl, sym, ap, subst, ◌∙◌, arith}
 use Rattle.std.proofs.lemmas.List.Elements.{All-cons, All-head, All-nil, All-tail, All-weaker}
-use Rattle.std.proofs.lemmas.List.{append-nil, append_assoc, map-append}
 use Rattle.std.specs.List.{AllZip}
 use Rattle.lfs_meta.specs.Name.{IsName}
 use Rattle.lfs_fs.specs.Path.{Path, path_text}
@@ -19,7 +18,7 @@ use Rattle.lfs_host.specs.Scene.{Scene}
 use Rattle.lfs_pack.specs.declared.pack_row.PackRow.{PackRow}
 use Rattle.lfs_pack.specs.Packed.{ArePackable, BeginAtRoot, IsRowOf, KindsRise, Packed, PackedRise}
 use Rattle.lfs_pack.specs.RowText.{RowText, pack_text}
-use Rattle.lfs_serve.specs.HostFolder.{PacksFolder, ReadsNoFolder, text_of_folder_row, packed_row}
+use Rattle.lfs_open.specs.HostFolder.{PacksFolder, ReadsNoFolder, text_of_folder_row, packed_row}
 
 -- ---- rows of paths can be packed
 
@@ -103,28 +102,6 @@ packs tree dir folder rows is same = record {
     packable = packable is.shown is.ordered;
   };
 }
-
--- ---- rows that are packed one after another
-
--- the texts of the rows so far, and of those that are left of a folder
-abbrev pub IsPackedTo : List FolderRow → List FolderRow → List PackRow → Type 0
-IsPackedTo folder left rows = map pack_text rows ++ map text_of_folder_row left ≡ map text_of_folder_row folder
-
--- one row more
-pub packed_further : (folder left more : List FolderRow) (f : FolderRow) (rows : List PackRow) (row : PackRow)
-    → pack_text row ≡ text_of_folder_row f → left ≡ f ∷ more → IsPackedTo folder left rows → IsPackedTo folder more (rows ++ row ∷ [])
-packed_further folder left more f rows row same is so_far =
-    ap (λ ts. ts ++ map text_of_folder_row more) (map-append pack_text rows (row ∷ []))
-    ∙ append_assoc (map pack_text rows) (pack_text row ∷ []) (map text_of_folder_row more)
-    ∙ ap (λ t. map pack_text rows ++ t ∷ map text_of_folder_row more) same
-    ∙ ap (λ fs. map pack_text rows ++ map text_of_folder_row fs) (sym is)
-    ∙ so_far
-
--- none is left
-pub all_packed : (folder left : List FolderRow) (rows : List PackRow) → left ≡ [] → IsPackedTo folder left rows
-    → map pack_text rows ≡ map text_of_folder_row folder
-all_packed folder left rows none so_far =
-    sym (append-nil (map pack_text rows)) ∙ ap (λ fs. map pack_text rows ++ map text_of_folder_row fs) (sym none) ∙ so_far
 
 -- want of memory says nothing of the host
 pub wants_memory : (tree : Option HostTree) (dir : List ℕ) (new : Scene) → ReadsNoFolder tree dir new (Refused No_memory)

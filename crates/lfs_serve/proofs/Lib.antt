@@ -1,11 +1,6 @@
 pub mod StepLemmas
-pub mod ExtractingLemmas
-pub mod ReadLengths
-pub mod SavingLemmas
-pub mod SalvagingLemmas
 pub mod HostFolderLemmas
 pub mod BatchingLemmas
-pub mod OpenedLemmas
 pub mod RepackingLemmas
 pub mod RequestsLead
 pub mod TreeLemmas

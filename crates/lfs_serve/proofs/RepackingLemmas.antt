@@ -12,9 +12,9 @@ use Rattle.lfs_request.specs.View.{start_of}
 use Rattle.lfs_request.specs.declared.extent.Extent.{Extent}
 use Rattle.lfs_request.specs.declared.said_limits.SaidLimits.{SaidLimits}
 use Rattle.lfs_request.specs.declared.source_image.SourceImage.{SourceImage}
-use Rattle.lfs_serve.specs.Opened.{IsSourceOpened}
-use Rattle.lfs_serve.specs.Repacking.{IsExtentFor, PacksSource, ReadsSource, RefusesSource}
-use Rattle.lfs_serve.specs.declared.opened.Opened.{Opened}
+use Rattle.lfs_open.specs.Opened.{IsSourceOpened}
+use Rattle.lfs_open.specs.Repacking.{IsExtentFor, PacksSource, ReadsSource, RefusesSource}
+use Rattle.lfs_open.specs.declared.opened.Opened.{Opened}
 
 -- the rows of its copies, with the limits that are said, and the others that it has
 pub packs : (source : SourceImage) (extent : Option Extent) (said : SaidLimits) (size : ℕ) (files : Option Files) (count : ℕ) (limits : Limits)

@@ -40,9 +40,9 @@ use Rattle.lfs_host.specs.Files.{Apart, BeginsWith, Files, FindsFile, ReadsFile,
 use Rattle.lfs_host.specs.Scene.{KeepsScene, Scene, WasRefused, unknown}
 use Rattle.lfs_request.specs.declared.operation.Operation.{Operation}
 use Rattle.lfs_request.specs.declared.operation.Operation.TheVariants as operation
-use Rattle.lfs_serve.specs.HostFolder.{packed_row}
+use Rattle.lfs_open.specs.HostFolder.{packed_row}
 use Rattle.lfs_pack.specs.Repacked.{all_packed}
-use Rattle.lfs_serve.specs.ReadBy.{IsReadBy}
+use Rattle.lfs_open.specs.ReadBy.{IsReadBy}
 use Rattle.lfs_serve.specs.Program.{BecomesStep, EndsStep, EndsOperation, IsNotBegun, StopsStep, manner_of}
 use Rattle.lfs_serve.specs.Requests.{FilesDenote, IsServedOn, IsTorn, RequestGoes, RequestsLeadOn, Served, OperationGoes, OperationGoesBy}
 use Rattle.lfs_serve.proofs.StepLemmas.{handed_from}

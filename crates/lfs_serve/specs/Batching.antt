@@ -1,22 +1,15 @@
 -- The steps of a script, which are taken all or not at all (own).
 use Rattle.std.specs.Borrow.{Bor}
-use Rattle.std.specs.Global.{Vec}
-use Rattle.std.specs.Prelude.{◌≡◌, ◌⊎◌, ℕ, Bool, true, if◌then◌else◌, List, [], ◌∷◌, Option, Some, None, flat_map}
+use Rattle.std.specs.Prelude.{◌≡◌, ◌⊎◌, ℕ, Bool, true, if◌then◌else◌, List, [], ◌∷◌, Option, Some, None}
 use Rattle.std.specs.List.{AllByRecursion, AllZip}
 use Rattle.lfs_fs.specs.Limits.{most_file}
-use Rattle.lfs_command.specs.Command.{Asked}
-use Rattle.lfs_command.specs.declared.command.Command.TheVariants.{Put}
 use Rattle.lfs_history.specs.declared.moves.Move.{Move}
-use Rattle.lfs_history.specs.declared.moves.Move.TheVariants.{Do}
-use Rattle.lfs_history.specs.declared.source.Source.{Source}
-use Rattle.lfs_history.specs.declared.source.Source.TheVariants.{File}
-use Rattle.lfs_history.specs.Filling.{bytes_given}
-use Rattle.lfs_history.specs.Meaning.{step_by}
 use Rattle.lfs_history.specs.Taking as change
 use Rattle.lfs_history.specs.Taking.{KeepsInRange}
 use Rattle.lfs_request.specs.declared.fault.Fault.{Fault}
 use Rattle.lfs_host.specs.Files.{Files, ReadsFile, ReadsInput}
 use Rattle.lfs_host.specs.Scene.{Scene}
+use Rattle.lfs_open.specs.LineMoves.{HandsContents, commands_in, move_said}
 use Rattle.lfs_exchange.specs.Handing.{IsUnread}
 use Rattle.lfs_report.specs.RefusedLine.{fault_of_line}
 use Rattle.lfs_texts.specs.OneChange.{first_other}
@@ -26,24 +19,6 @@ use Rattle.lfs_texts.specs.declared.script_fault.ScriptFault.{ScriptFault}
 use Rattle.lfs_texts.specs.declared.script_line.ScriptLine.{ScriptLine}
 
 -- ---- what a line means
-
--- the contents that a step of a script puts: those of a file of the host
-abbrev pub HandsContents : Move Source → Option Files → List ℕ → Type 0
-HandsContents (Do (Put path (File name)) keep) files contents = ReadsFile files name.now most_file contents
-HandsContents _ files contents = contents ≡ []
-
--- so much was read for a line
-abbrev pub HandsLine : Option Files → ScriptLine → Vec ℕ → Type 0
-HandsLine files line read = HandsContents line.step files read.items
-
--- the step on a history that a line says, with the contents that were read for it
-abbrev pub move_said : ScriptLine → List ℕ → change.Move
-move_said line read = step_by (bytes_given read) line.step
-
--- those of lines, with what was read for each
-abbrev pub moves_said : List ScriptLine → List (Vec ℕ) → List change.Move
-moves_said (line ∷ lines) (bytes ∷ read) = move_said line bytes.items ∷ moves_said lines read
-moves_said _ _ = []
 
 -- what a line means
 abbrev pub MeansMove : Option Files → ScriptLine → change.Move → Type 0
@@ -64,20 +39,6 @@ abbrev pub KeepInRange : List ScriptLine → Type 0
 KeepInRange lines = AllByRecursion (λ line. (read : List ℕ) → KeepsInRange (move_said line read)) lines
 
 -- ---- one change
-
--- the command that a step carries out, if it is one
-abbrev pub command_in : change.Move → Option Asked
-command_in (change.Do asked keep) = Some asked
-command_in _ = None
-
--- what there may be, as a list
-abbrev pub listed : {X : Type 0} → Option X → List X
-listed None = []
-listed (Some x) = x ∷ []
-
--- the commands among steps, in their order
-abbrev pub commands_in : List change.Move → List Asked
-commands_in moves = flat_map (λ move. listed (command_in move)) moves
 
 -- steps as they are asked for: as they are, or their commands as one change, which is none where there is no step
 abbrev pub as_asked : Bool → Option ℕ → List change.Move → List change.Move

@@ -1,15 +1,7 @@
-pub mod Extent
 pub mod StepKind
-pub mod Later
-pub mod ReadBy
+pub mod LaterRead
 pub mod Batching
-pub mod HostFolder
 pub mod Trees
 pub mod Program
 pub mod Lines
-pub mod Extracting
-pub mod Salvaging
-pub mod Repacking
-pub mod Opened
 pub mod Requests
-pub mod Stated

@@ -16,7 +16,8 @@ use Rattle.lfs_pack.specs.declared.pack_row.PackRow.{PackRow}
 use Rattle.lfs_request.specs.declared.request.Request.{Request}
 use Rattle.lfs_request.specs.declared.operation.Operation.{Operation}
 use Rattle.lfs_request.specs.declared.operation.Operation.TheVariants.{Format, Pack, Repack, Extract, Salvage, Ask, Forget, Change, Tree, Batch}
-use Rattle.lfs_serve.specs.Extent.{IsExtent}
+use Rattle.lfs_open.specs.Blamed.{IsBlamed}
+use Rattle.lfs_open.specs.Extent.{IsExtent}
 use Rattle.lfs_step.specs.declared.step.Step.{Step}
 use Rattle.lfs_step.specs.declared.step.Step.TheVariants as step
 use Rattle.lfs_step.specs.Outcome.{Answers, SendsText, given}
@@ -28,20 +29,16 @@ use Rattle.lfs_exchange.specs.StepKind.{kind_of_query, kind_of_steps}
 use Rattle.lfs_serve.specs.StepKind.{kind_of}
 use Rattle.lfs_exchange.specs.Storing.{LeavesFiles, SparesFiles}
 use Rattle.lfs_serve.specs.Batching.{BecomesBatch, BecomesNoBatch}
-use Rattle.lfs_serve.specs.Extracting.{EndsExtract}
-use Rattle.lfs_serve.specs.HostFolder.{PacksFolder, ReadsNoFolder}
-use Rattle.lfs_serve.specs.Later.{later_read, refused_by}
-use Rattle.lfs_serve.specs.ReadBy.{IsAskedBy, IsReadBy, WantsMemory}
-use Rattle.lfs_serve.specs.Repacking.{PacksSource, RefusesSource}
-use Rattle.lfs_serve.specs.Salvaging.{EndsSalvage}
+use Rattle.lfs_open.specs.Extracting.{EndsExtract}
+use Rattle.lfs_open.specs.HostFolder.{PacksFolder, ReadsNoFolder}
+use Rattle.lfs_open.specs.Later.{refused_by}
+use Rattle.lfs_serve.specs.LaterRead.{later_read}
+use Rattle.lfs_open.specs.ReadBy.{IsAskedBy, IsReadBy, WantsMemory}
+use Rattle.lfs_open.specs.Repacking.{PacksSource, RefusesSource}
+use Rattle.lfs_open.specs.Salvaging.{EndsSalvage}
 use Rattle.lfs_serve.specs.Trees.{BecomesChange, IsNotReadFor, IsReadFirst, change_reads_input}
 
 -- ---- a step
-
--- standard output is blamed only where the host has refused something
-abbrev pub IsBlamed : Option Fault → Scene → Type 0
-IsBlamed (Some CannotWrite) s = HasRefused s
-IsBlamed _ s = ⊤
 
 -- `run` was handed what is known of an image's files, in which nothing was to be refused as later, read in a manner; it answered this
 -- outcome, and said so much of it.

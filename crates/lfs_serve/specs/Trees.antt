@@ -15,7 +15,7 @@ use Rattle.lfs_step.specs.TreeChanging.{Changing}
 use Rattle.lfs_sync.specs.Shown.{wanted_of}
 use Rattle.lfs_sync.specs.SyncRows.{AreRowsOfFolder}
 use Rattle.lfs_sync.specs.declared.sync_row.SyncRow.{SyncRow}
-use Rattle.lfs_serve.specs.HostFolder.{ReadsNoFolder}
+use Rattle.lfs_open.specs.HostFolder.{ReadsNoFolder}
 
 -- a change by where its contents come from, and by the name of its folder
 abbrev pub Asking : Type 0

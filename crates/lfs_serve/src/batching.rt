@@ -13,11 +13,11 @@ ghost use Rattle.lfs_serve.specs.Lines.{EndsLines};
 ghost use Rattle.lfs_serve.specs.Program.{EndsOperation, OperationLeavesRest, operation_reads_input};
 ghost use Rattle.lfs_texts.specs.Script.{SaysLine, asking_lines};
 
-use crate::line_moves::{commands_of, moves_of, read_lines};
 use crate::stepping::stepped;
 use lfs_exchange::{kind_of_steps, read_contents, read_input, taken_up};
 use lfs_history::Move;
 use lfs_host::Host;
+use lfs_open::{commands_of, moves_of, read_lines};
 use lfs_report::{Context, Stop, stop_of_line, with_line, with_number};
 use lfs_request::{Fault, Request};
 use lfs_step::Step;
@@ -98,7 +98,7 @@ fn text_batched<H: Host>(
     }
 }
 
-/// What the lines of a script report_pieces, which are commands alone where they are to be one change; or the first that is refused.
+/// What the lines of a script say, which are commands alone where they are to be one change; or the first that is refused.
 fn lines_said<'a>(
     alloc: Global,
     script: &'a Script<'_>,

@@ -6,12 +6,11 @@ ghost use Rattle.lfs_report.specs.Stop.{stopped_by};
 ghost use Rattle.lfs_request.specs.declared.operation.Operation.TheVariants.{Pack};
 ghost use Rattle.lfs_serve.specs.Program.{EndsOperation, OperationLeavesRest};
 
-use crate::host_folder::{folder_of, pack_rows};
-use crate::least::counted;
 use crate::stepping::stepped;
 use lfs_exchange::{StepKind, taken_up};
 use lfs_fs::Limits;
 use lfs_host::Host;
+use lfs_open::{counted, folder_of, pack_rows};
 use lfs_pack::PackRow;
 use lfs_report::{Context, Stop, with_need, with_row};
 use lfs_request::{Extent, Request};

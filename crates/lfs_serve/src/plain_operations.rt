@@ -6,13 +6,13 @@ ghost use Rattle.lfs_request.specs.Operation.{IsOperationInRange};
 ghost use Rattle.lfs_request.specs.declared.operation.Operation.TheVariants.{Ask, Change, Forget, Format};
 ghost use Rattle.lfs_serve.specs.Program.{EndsOperation, OperationLeavesRest};
 
-use crate::read_by::asked_by;
 use crate::stepping::{stepped, stepped_in};
 use lfs_exchange::{StepKind, input_of, kind_of_query, question_of, taken_up};
 use lfs_fs::Limits;
 use lfs_history::{Move, Source, filled};
 use lfs_host::Host;
 use lfs_json::Form;
+use lfs_open::asked_by;
 use lfs_report::{Context, Stop};
 use lfs_request::{Manner, Query, Request, View};
 use lfs_step::Step;

@@ -5,12 +5,11 @@ ghost use Rattle.lfs_request.specs.SaidLimits.{AreSaidInRange};
 ghost use Rattle.lfs_request.specs.declared.operation.Operation.TheVariants.{Repack};
 ghost use Rattle.lfs_serve.specs.Program.{EndsOperation, OperationLeavesRest};
 
-use crate::least::counted_for;
-use crate::opened::open_source;
 use crate::packing::told;
 use crate::stepping::stepped;
 use lfs_exchange::{StepKind, taken_up};
 use lfs_host::Host;
+use lfs_open::{counted_for, open_source};
 use lfs_pack::pack_rows;
 use lfs_report::{Context, Stop};
 use lfs_request::{Extent, Request, SaidLimits, SourceImage};

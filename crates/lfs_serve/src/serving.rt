@@ -6,14 +6,13 @@ ghost use Rattle.lfs_request.specs.Operation.{IsOperationInRange};
 ghost use Rattle.lfs_serve.specs.Program.{EndsRequest, EndsOperation, IsNotSpared, IsSpared, OperationLeavesRest};
 
 use crate::batching::batched;
-use crate::extracting::extracted;
 use crate::packing::packed;
 use crate::plain_operations::{changed, forgotten, formatted, queried};
 use crate::repacking::repacked;
-use crate::salvaging::salvaged;
 use crate::tree_operations::tree_changed;
 use lfs_exchange::spare;
 use lfs_host::Host;
+use lfs_open::{extracted, salvaged};
 use lfs_report::{Context, Stop, report_end, report_later, report_within};
 use lfs_request::{Operation, Request};
 use std::alloc::Global;

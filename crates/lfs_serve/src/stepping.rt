@@ -12,14 +12,14 @@ ghost use Rattle.lfs_report.specs.Stop.{stopped_by};
 ghost use Rattle.lfs_request.specs.View.{start_of};
 ghost use Rattle.lfs_step.specs.Outcome.{Answers, SendsText, given};
 ghost use Rattle.lfs_step.specs.Step.{IsStepInRange};
-ghost use Rattle.lfs_serve.specs.Program.{EndsStep, IsBlamed, as_it_is};
+ghost use Rattle.lfs_open.specs.Blamed.{IsBlamed};
+ghost use Rattle.lfs_serve.specs.Program.{EndsStep, as_it_is};
 
-use crate::later::pass_step;
-use crate::new_image::with_new_image;
-use crate::read_by::read_by;
+use crate::later_read::pass_step;
 use crate::seeing::seen_of;
 use lfs_exchange::{Handed, Output, StepKind, flush, stored};
 use lfs_host::Host;
+use lfs_open::{read_by, with_new_image};
 use lfs_report::{Context, Stop, stop_of_run};
 use lfs_request::{Fault, Manner, Outcome, Request, View};
 use lfs_step::{Step, run};
@@ -126,7 +126,7 @@ fn stopped<H: Host>(
     }
 }
 
-/// Takes a step on what it is handed, and answers what it leaves. The text of what is told of its end is put into `beside`.
+/// Takes a step on what it is handed, and answers what it leaves. The text of what is told of its end is put into `context`.
 fn taken<H: Host>(
     alloc: Global,
     host: &mut H,

@@ -15,11 +15,11 @@ ghost use Rattle.lfs_serve.specs.Program.{EndsStep, EndsOperation, OperationLeav
 ghost use Rattle.lfs_step.specs.TreeChanging.{IsChangeInRange};
 ghost use Rattle.lfs_step.specs.declared.step.Step.TheVariants as step;
 
-use crate::host_folder::folder_of;
 use crate::stepping::stepped;
 use lfs_exchange::{Handed, StepKind, source_read, taken_up};
 use lfs_history::Source;
 use lfs_host::Host;
+use lfs_open::folder_of;
 use lfs_report::{Context, Stop};
 use lfs_request::{Request, TreeChange};
 use lfs_step::Step;

@@ -1,5 +1,4 @@
 pub mod ContentsLemmas
-pub mod DirectoryLemmas
 pub mod BetweenLemmas
 pub mod AppendingLemmas
 pub mod LogLemmas

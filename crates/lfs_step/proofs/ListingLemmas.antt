@@ -14,7 +14,8 @@ use Rattle.lfs_request.specs.declared.query.Query.TheVariants.{Ls, Blocks}
 use Rattle.lfs_request.specs.declared.fault.Fault.{Fault}
 use Rattle.lfs_request.specs.Fault.{blames_output, fault_of_mount}
 use Rattle.lfs_step.proofs.ComparingLemmas.{same_kept}
-use Rattle.lfs_step.specs.Listed.{IsListing, IsPathThere, listing_text}
+use Rattle.lfs_request.specs.Standing.{IsPathThere}
+use Rattle.lfs_step.specs.Listed.{IsListing, listing_text}
 use Rattle.lfs_step.specs.Query.{RefusesReport, SendsReport, blocks_text, fault_of_unsent}
 
 -- the sink is blamed by the fault that is told

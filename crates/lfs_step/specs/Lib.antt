@@ -1,7 +1,6 @@
 pub mod Contents
 pub mod Sent
 pub mod Listed
-pub mod DirectoryThere
 pub mod Log
 pub mod Between
 pub mod Step

@@ -17,7 +17,8 @@ use Rattle.lfs_request.specs.Query.{Question}
 use Rattle.lfs_request.specs.declared.query.Query.TheVariants.{Check, Ls, Blocks, Cat}
 use Rattle.lfs_host.specs.Send.{SendsBeginning}
 use Rattle.lfs_step.specs.Contents.{IsContents, RefusesContents}
-use Rattle.lfs_step.specs.Listed.{IsListing, RefusesListing}
+use Rattle.lfs_request.specs.Standing.{RefusesListing}
+use Rattle.lfs_step.specs.Listed.{IsListing}
 use Rattle.lfs_step.specs.Summary.{summary_text}
 
 -- which block holds what, or in place of that how many blocks each path takes

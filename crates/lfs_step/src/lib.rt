@@ -13,7 +13,6 @@ mod querying;
 mod recounting;
 mod running;
 mod sending;
-mod standing;
 mod step;
 mod summary;
 mod tree_changing;
@@ -24,5 +23,4 @@ pub use laws::{
 };
 pub use log::log_of;
 pub use running::run;
-pub use standing::names_of_directory;
 pub use step::Step;

@@ -19,7 +19,6 @@ use crate::comparing::compare_bytes;
 use crate::contents::send_file;
 use crate::recounting::recount;
 use crate::sending::{fault_of_listing, sent_complete};
-use crate::standing::names_there;
 use crate::summary::summary_text;
 use lfs_block::Image;
 use lfs_fs::{Mounted, mount};
@@ -28,7 +27,7 @@ use lfs_json::Form;
 use lfs_listing::{
     MountedImage, Unsent, send_block_map, send_block_sums, send_digests, send_listing,
 };
-use lfs_request::{Fault, Outcome, Place, Query};
+use lfs_request::{Fault, Outcome, Place, Query, names_there};
 use std::alloc::Global;
 use std::mem::forget;
 

@@ -7,7 +7,7 @@ use Rattle.clap.specs.declared.parser.matches.ArgMatches.{ArgMatches}
 use Rattle.lfs_host.specs.Scene.{KeepsAll, Scene}
 use Rattle.lfs_grammar.specs.Grammar.{IsMatched, IsTaken, grammar}
 use Rattle.lfs_grammar.specs.Hyphens.{dashed, names_files_plainly}
-use Rattle.lfs_serve.specs.Stated.{IsStatedSize}
+use Rattle.lfs_open.specs.Stated.{IsStatedSize}
 use Rattle.lfs_arguments.specs.declared.auto_file.AutoFile.{AutoFile}
 use Rattle.lfsed.specs.Words.{EndsNamed, EndsWords, Looks}
 

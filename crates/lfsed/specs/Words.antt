@@ -17,10 +17,10 @@ use Rattle.lfs_grammar.specs.Hyphens.{IsRead}
 use Rattle.lfs_arguments.specs.Words.{AsksFor, Explains, IsMissaid, LooksIn, SaysAutoImage, SaysAutoOther}
 use Rattle.lfs_arguments.specs.declared.usage_error.UsageError.{UsageError}
 use Rattle.lfs_exchange.specs.Printing.{PrintsBeginning}
-use Rattle.lfs_find.specs.Finding.{EndsFinding}
+use Rattle.lfs_open.specs.Finding.{EndsFinding}
 use Rattle.lfs_host.specs.Scene.{KeepsAll, KeepsInput, Scene}
 use Rattle.lfs_serve.specs.Program.{EndsRequest}
-use Rattle.lfs_serve.specs.Stated.{IsStatedSize}
+use Rattle.lfs_open.specs.Stated.{IsStatedSize}
 
 -- the status of a command line that is refused
 abbrev pub usage : ℕ

@@ -8,7 +8,7 @@ ghost use Rattle.lfs_host.specs.Scene.{KeepsAll};
 ghost use Rattle.lfs_request.specs.Fault.{status_of};
 ghost use Rattle.lfs_request.specs.declared.fault.Fault.TheVariants.{Refused};
 ghost use Rattle.lfs_command.specs.declared.refusal.Refusal.TheVariants.{Memory as No_memory};
-ghost use Rattle.lfs_serve.specs.Stated.{IsStatedSize};
+ghost use Rattle.lfs_open.specs.Stated.{IsStatedSize};
 ghost use Rattle.lfs_arguments.specs.declared.usage_error.UsageError.TheVariants.{Memory};
 ghost use Rattle.lfsed.specs.Words.{EndsError, EndsExplained, EndsFound, EndsUsedWrongly, EndsNamed, EndsPrinting, EndsWords, AreStated, ended_with};
 
@@ -22,12 +22,12 @@ use lfs_arguments::{
 };
 use lfs_command::Refusal;
 use lfs_exchange::{MORE, print, report_of_image};
-use lfs_find::list_images;
 use lfs_grammar::{dashed, matched, names_files_plainly};
 use lfs_host::Host;
+use lfs_open::{list_images, stated_size};
 use lfs_report::report_digits;
 use lfs_request::Fault;
-use lfs_serve::{served, stated_size};
+use lfs_serve::served;
 use lfs_texts::{explained, explanations};
 use std::alloc::{AllocError, Global};
 use std::convert::AsStr;

@@ -5,7 +5,7 @@ use Rattle.lfs_host.specs.Scene.{KeepsScene, Scene}
 use Rattle.lfs_serve.specs.Batching.{ReadsScript}
 use Rattle.lfs_report.specs.Stop.{stopped_by}
 use Rattle.lfs_serve.proofs.BatchingLemmas.{script_ends}
-use Rattle.lfs_serve.proofs.StepLemmas.{stopped_at}
+use Rattle.lfs_open.proofs.StopLemmas.{stopped_at}
 use Rattle.lfs_serve.proofs.batching.batched.Goals as goal
 
 pub returns-in_err-text-clause-ended : goal.returns-in_err-text-clause-ended

@@ -12,9 +12,10 @@ use Rattle.lfs_history.specs.Taking.{KeepsInRange}
 use Rattle.lfs_host.specs.Scene.{Scene}
 use Rattle.lfs_exchange.specs.Handing.{IsUnread}
 use Rattle.lfs_report.specs.Stop.{stopped_by}
-use Rattle.lfs_serve.specs.Batching.{BecomesOf, HandsLine, as_asked, moves_said}
+use Rattle.lfs_open.specs.LineMoves.{HandsLine, moves_said}
+use Rattle.lfs_serve.specs.Batching.{BecomesOf, as_asked}
 use Rattle.lfs_serve.proofs.BatchingLemmas.{all_in_range, ends_by, ends_from, takes_lines}
-use Rattle.lfs_serve.proofs.StepLemmas.{stopped_at}
+use Rattle.lfs_open.proofs.StopLemmas.{stopped_at}
 use Rattle.lfs_serve.proofs.batching.lines_batched.Goals as goal
 
 pub moves_of-requires : goal.moves_of-requires

@@ -9,9 +9,10 @@ use Rattle.lfs_history.specs.Taking as change
 use Rattle.lfs_host.specs.Scene.{Scene}
 use Rattle.lfs_exchange.specs.Handing.{IsUnread}
 use Rattle.lfs_report.specs.Stop.{stopped_by}
-use Rattle.lfs_serve.specs.Batching.{as_asked, commands_in}
+use Rattle.lfs_open.specs.LineMoves.{commands_in}
+use Rattle.lfs_serve.specs.Batching.{as_asked}
 use Rattle.lfs_serve.proofs.BatchingLemmas.{as_one, ends_by}
-use Rattle.lfs_serve.proofs.StepLemmas.{stopped_at}
+use Rattle.lfs_open.proofs.StopLemmas.{stopped_at}
 use Rattle.lfs_serve.proofs.batching.moves_batched.Goals as goal
 
 pub returns-in_err-commands-clause-ended : goal.returns-in_err-commands-clause-ended

@@ -9,7 +9,8 @@ use Rattle.lfs_report.specs.Stop.{stopped_by}
 use Rattle.lfs_step.specs.declared.step.Step.TheVariants.{Change}
 use Rattle.lfs_serve.specs.Program.{as_it_is}
 use Rattle.lfs_serve.proofs.BatchingLemmas.{same_kind}
-use Rattle.lfs_serve.proofs.StepLemmas.{step_at, stopped_at}
+use Rattle.lfs_open.proofs.StopLemmas.{stopped_at}
+use Rattle.lfs_serve.proofs.StepLemmas.{step_at}
 use Rattle.lfs_serve.proofs.batching.moves_taken.Goals as goal
 
 pub stepped-requires-clause-kind : goal.stepped-requires-clause-kind

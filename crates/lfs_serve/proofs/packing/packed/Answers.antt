@@ -11,10 +11,11 @@ use Rattle.lfs_host.specs.Scene.{Scene}
 use Rattle.lfs_pack.specs.declared.pack_row.PackRow.{PackRow}
 use Rattle.lfs_report.specs.Stop.{stopped_by}
 use Rattle.lfs_step.specs.declared.step.Step.TheVariants.{Pack}
-use Rattle.lfs_serve.specs.HostFolder.{PacksFolder}
+use Rattle.lfs_open.specs.HostFolder.{PacksFolder}
 use Rattle.lfs_serve.specs.Program.{as_it_is}
 use Rattle.lfs_serve.proofs.HostFolderLemmas.{packs, wants_memory}
-use Rattle.lfs_serve.proofs.StepLemmas.{step_at, stopped_at}
+use Rattle.lfs_open.proofs.StopLemmas.{stopped_at}
+use Rattle.lfs_serve.proofs.StepLemmas.{step_at}
 use Rattle.lfs_serve.proofs.packing.packed.Goals as goal
 
 pub returns-in_err-folder-clause-ended : goal.returns-in_err-folder-clause-ended

@@ -11,7 +11,8 @@ use Rattle.lfs_host.specs.Scene.{Scene}
 use Rattle.lfs_report.specs.Stop.{stopped_by}
 use Rattle.lfs_step.specs.declared.step.Step.TheVariants.{Change}
 use Rattle.lfs_serve.specs.Program.{as_it_is}
-use Rattle.lfs_serve.proofs.StepLemmas.{step_from, stopped_at, claimed_at, handed_from, target_from}
+use Rattle.lfs_open.proofs.StopLemmas.{stopped_at}
+use Rattle.lfs_serve.proofs.StepLemmas.{step_from, claimed_at, handed_from, target_from}
 use Rattle.lfs_serve.proofs.plain_operations.changed.Goals as goal
 
 pub returns-in_err-handed-clause-ended : goal.returns-in_err-handed-clause-ended

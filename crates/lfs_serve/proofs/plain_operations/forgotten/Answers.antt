@@ -6,7 +6,8 @@ use Rattle.lfs_host.specs.Scene.{Scene}
 use Rattle.lfs_report.specs.Stop.{stopped_by}
 use Rattle.lfs_step.specs.declared.step.Step.TheVariants.{Forget}
 use Rattle.lfs_serve.specs.Program.{as_it_is}
-use Rattle.lfs_serve.proofs.StepLemmas.{step_from, stopped_at}
+use Rattle.lfs_open.proofs.StopLemmas.{stopped_at}
+use Rattle.lfs_serve.proofs.StepLemmas.{step_from}
 use Rattle.lfs_serve.proofs.plain_operations.forgotten.Goals as goal
 
 pub returns-in_err-handed-clause-ended : goal.returns-in_err-handed-clause-ended

@@ -11,7 +11,8 @@ use Rattle.lfs_report.specs.Stop.{stopped_by}
 use Rattle.lfs_request.specs.declared.fault.Fault.TheVariants.{Refused}
 use Rattle.lfs_request.specs.declared.manner.Manner.{Manner}
 use Rattle.lfs_step.specs.declared.step.Step.TheVariants.{Ask}
-use Rattle.lfs_serve.proofs.StepLemmas.{step_from, stopped_at, claimed_at, handed_from, question_kind, target_from, handed_at}
+use Rattle.lfs_open.proofs.StopLemmas.{stopped_at}
+use Rattle.lfs_serve.proofs.StepLemmas.{step_from, claimed_at, handed_from, question_kind, target_from, handed_at}
 use Rattle.lfs_request.specs.View.{start_of}
 use Rattle.lfs_serve.proofs.plain_operations.queried.Goals as goal
 

@@ -10,7 +10,8 @@ use Rattle.lfs_request.specs.declared.fault.Fault.TheVariants.{Refused}
 use Rattle.lfs_step.specs.declared.step.Step.TheVariants.{Pack}
 use Rattle.lfs_serve.specs.Program.{as_it_is}
 use Rattle.lfs_serve.proofs.RepackingLemmas.{opened_from, packs, refused_from}
-use Rattle.lfs_serve.proofs.StepLemmas.{step_at, stopped_at, claimed_at, handed_from, target_from}
+use Rattle.lfs_open.proofs.StopLemmas.{stopped_at}
+use Rattle.lfs_serve.proofs.StepLemmas.{step_at, claimed_at, handed_from, target_from}
 use Rattle.lfs_serve.proofs.repacking.repacked.Goals as goal
 
 pub counted_for-requires-clause-limits : goal.counted_for-requires-clause-limits

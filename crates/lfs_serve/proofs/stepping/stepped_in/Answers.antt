@@ -8,9 +8,11 @@ use Rattle.lfs_request.specs.View.{start_of}
 use Rattle.lfs_serve.specs.StepKind.{kind_of}
 use Rattle.lfs_exchange.specs.declared.step_kind.StepKind.{StepKind}
 use Rattle.lfs_host.specs.Scene.{Scene}
-use Rattle.lfs_serve.specs.Later.{later_read, refused_by}
+use Rattle.lfs_open.specs.Later.{refused_by}
+use Rattle.lfs_serve.specs.LaterRead.{later_read}
 use Rattle.lfs_serve.specs.Program.{RunsStep}
-use Rattle.lfs_serve.proofs.StepLemmas.{ends_behind, ends_later, ends_refused, ends_unhanded, ends_wanting, leaves_at, spares_at, step_ran, stopped_at, refused_so}
+use Rattle.lfs_open.proofs.StopLemmas.{stopped_at, refused_so}
+use Rattle.lfs_serve.proofs.StepLemmas.{ends_behind, ends_later, ends_refused, ends_unhanded, ends_wanting, leaves_at, spares_at, step_ran}
 use Rattle.lfs_report.specs.Stop.{stopped_by}
 use Rattle.lfs_serve.proofs.stepping.stepped_in.Goals as goal
 

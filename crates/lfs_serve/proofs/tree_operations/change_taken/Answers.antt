@@ -5,7 +5,8 @@ use Rattle.lfs_host.specs.Scene.{Scene}
 use Rattle.lfs_report.specs.Stop.{stopped_by}
 use Rattle.lfs_step.specs.declared.step.Step.TheVariants.{Tree}
 use Rattle.lfs_serve.specs.Program.{as_it_is}
-use Rattle.lfs_serve.proofs.StepLemmas.{step_from, stopped_at}
+use Rattle.lfs_open.proofs.StopLemmas.{stopped_at}
+use Rattle.lfs_serve.proofs.StepLemmas.{step_from}
 use Rattle.lfs_serve.proofs.tree_operations.change_taken.Goals as goal
 
 pub stepped-requires-clause-kind : goal.stepped-requires-clause-kind

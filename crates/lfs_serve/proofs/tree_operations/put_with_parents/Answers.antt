@@ -8,7 +8,8 @@ use Rattle.lfs_host.specs.Scene.{Scene}
 use Rattle.lfs_report.specs.Stop.{stopped_by}
 use Rattle.lfs_step.specs.declared.step.Step.TheVariants.{Tree}
 use Rattle.lfs_serve.specs.Program.{as_it_is}
-use Rattle.lfs_serve.proofs.StepLemmas.{step_from, stopped_at, claimed_at, handed_from, target_from}
+use Rattle.lfs_open.proofs.StopLemmas.{stopped_at}
+use Rattle.lfs_serve.proofs.StepLemmas.{step_from, claimed_at, handed_from, target_from}
 use Rattle.lfs_serve.proofs.tree_operations.put_with_parents.Goals as goal
 
 pub put_taken-requires-clause-kind : goal.put_taken-requires-clause-kind

@@ -17,7 +17,8 @@ use Rattle.lfs_serve.specs.Program.{as_it_is}
 use Rattle.lfs_serve.specs.Trees.{SyncsFolder}
 use Rattle.lfs_serve.proofs.HostFolderLemmas.{wants_memory}
 use Rattle.lfs_serve.proofs.TreeLemmas.{folded_by}
-use Rattle.lfs_serve.proofs.StepLemmas.{step_from, stopped_at}
+use Rattle.lfs_open.proofs.StopLemmas.{stopped_at}
+use Rattle.lfs_serve.proofs.StepLemmas.{step_from}
 use Rattle.lfs_serve.proofs.tree_operations.synced.Goals as goal
 
 pub change_taken-requires-clause-keep : goal.change_taken-requires-clause-keep

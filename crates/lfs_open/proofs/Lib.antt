@@ -1,0 +1,11 @@
+pub mod PlaceLemmas
+pub mod FoundLemmas
+pub mod FindingLemmas
+pub mod StopLemmas
+pub mod HostFolderLemmas
+pub mod LineLemmas
+pub mod OpenedLemmas
+pub mod ReadLengths
+pub mod ExtractingLemmas
+pub mod SavingLemmas
+pub mod SalvagingLemmas

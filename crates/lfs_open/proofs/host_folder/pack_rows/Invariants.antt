@@ -1,0 +1,9 @@
+-- The rows so far are packed.
+use Rattle.std.proofs.Common.{drop}
+use Rattle.lfs_open.proofs.HostFolderLemmas.{IsPackedTo}
+use Rattle.lfs_open.proofs.host_folder.pack_rows.Given as goal
+
+abbrev pub invariant-each : goal.invariant-each
+invariant-each l = record {
+  packed : IsPackedTo l.folder (drop l.row-index l.folder) l.rows.items;
+}

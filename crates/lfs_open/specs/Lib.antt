@@ -1,0 +1,16 @@
+pub mod Place
+pub mod Found
+pub mod FaultName
+pub mod FoundText
+pub mod Finding
+pub mod Blamed
+pub mod Later
+pub mod ReadBy
+pub mod Stated
+pub mod HostFolder
+pub mod LineMoves
+pub mod Extent
+pub mod Repacking
+pub mod Opened
+pub mod Extracting
+pub mod Salvaging

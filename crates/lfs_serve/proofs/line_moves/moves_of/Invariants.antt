@@ -1,8 +1,0 @@
--- What the lines so far say.
-use Rattle.std.proofs.Common.{◌≡◌, map, take}
-use Rattle.lfs_history.specs.Meaning.{step_of}
-use Rattle.lfs_serve.specs.Batching.{moves_said}
-use Rattle.lfs_serve.proofs.line_moves.moves_of.Given as goal
-
-abbrev pub invariant-each : goal.invariant-each
-invariant-each l = map step_of l.moves.items ≡ moves_said (take l.at l.lines) (take l.at l.read)
