@@ -4,6 +4,7 @@
 import concurrent.futures
 import contextlib
 import io
+import os
 import pathlib
 import shutil
 import subprocess
@@ -25,11 +26,33 @@ NOTHING = None, None
 REFUSED = b"lfsed: b.img: this image is refused\n"
 
 
-class Runs:
-    """Runs in a folder, on the file a.img of it and its journal, with blocks of one size at a time."""
+class Spawned:
+    """Runs of programs in the folder at hand, whose input and output are files there: a pipe for each takes half as long again."""
 
     def __init__(self, folder):
-        self.size = 512
+        self.files = [os.open(folder / name, os.O_RDWR | os.O_CREAT) for name in ("input", "printed", "complained")]
+
+    def run(self, command, contents, env):
+        """How a run ends on this input: its status, what it prints and what it complains."""
+        for file in self.files:
+            os.ftruncate(file, 0)
+            os.lseek(file, 0, os.SEEK_SET)
+        os.pwrite(self.files[0], contents, 0)
+        actions = [(os.POSIX_SPAWN_DUP2, file, to) for to, file in enumerate(self.files)]
+        _, status = os.waitpid(os.posix_spawn(command[0], command, env, file_actions=actions), 0)
+        printed, complained = (os.pread(file, os.fstat(file).st_size, 0) for file in self.files[1:])
+        return os.waitstatus_to_exitcode(status), printed, complained
+
+    def close(self):
+        for file in self.files:
+            os.close(file)
+
+
+class Runs:
+    """Runs in a folder, the one at hand, on the file a.img of it and its journal, with blocks of one size at a time."""
+
+    def __init__(self, folder, spawned):
+        self.size, self.spawned = 512, spawned
         self.files = folder / "a.img", folder / "a.img.lfsj"
         self.refusing = Refusing(folder)
         self.ran = self.wrong = 0
@@ -41,12 +64,11 @@ class Runs:
             file.unlink(missing_ok=True)
             if data is not None:
                 file.write_bytes(data)
-        env = self.refusing.env(at) if at else None
+        env = self.refusing.env(at) if at else os.environ
         sized = [] if words[0] == "find" else [f"--block={self.size}"]
-        command = [PROGRAM, words[0], *sized, *words[1:]]
-        ended = subprocess.run(command, cwd=self.files[0].parent, input=contents, capture_output=True, env=env)
+        ended = self.spawned.run([PROGRAM, words[0], *sized, *words[1:]], contents, env)
         after = tuple(file.read_bytes() if file.exists() else None for file in self.files)
-        return ended.returncode, ended.stdout, ended.stderr, after
+        return *ended, after
 
     def row(self, words, state, contents=b""):
         """Refuses each request of a run in turn; answers the files that the run leaves with ample memory. A refused run may leave out
@@ -365,9 +387,12 @@ def salvage_rows(runs):
 def tried(group):
     """Tries a group of rows in a folder of its own: what is said of them, how many there are, and of how many a run went wrong."""
     said = io.StringIO()
-    with tempfile.TemporaryDirectory() as folder, contextlib.redirect_stdout(said):
-        runs = Runs(pathlib.Path(folder))
-        group(runs)
+    with tempfile.TemporaryDirectory() as folder, tempfile.TemporaryDirectory() as beside, contextlib.redirect_stdout(said):
+        os.chdir(folder)
+        with contextlib.closing(Spawned(pathlib.Path(beside))) as spawned:
+            runs = Runs(pathlib.Path(folder), spawned)
+            group(runs)
+        os.chdir(HOME)
     return said.getvalue(), runs.ran, runs.wrong
 
 
