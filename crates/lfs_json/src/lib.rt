@@ -10,12 +10,10 @@ mod laws;
 mod line;
 mod members;
 mod paths;
-mod quoted;
 mod record_laws;
 mod rows;
 mod steps;
 mod summary;
-mod told;
 
 pub use blocks::{
     FREE_FRONT, append_json_free_sum, append_json_run, append_json_sum, append_json_user,
@@ -25,9 +23,7 @@ pub use form::Form;
 pub use laws::{spellings_are_one_line, spellings_are_utf8, spellings_read_back};
 pub use line::{begin_line, end_line};
 pub use members::{add_bytes, add_digits, add_number, add_text};
-pub use quoted::Quoted;
 pub use record_laws::{blocks_have_texts, rows_have_texts, steps_have_texts, summaries_have_texts};
 pub use rows::{append_json_digested_row, append_json_row};
 pub use steps::append_json_step;
 pub use summary::{Summary, append_json_limits, append_json_summary};
-pub use told::Told;

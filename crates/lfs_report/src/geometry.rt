@@ -4,8 +4,7 @@ ghost use Rattle.std.specs.Prelude.{◌≡◌};
 
 use crate::line::{Piece, report_pieces};
 use lfs_block::{BLOCK_SIZE_STEP, MAX_BLOCK_COUNT, MAX_IMAGE_LENGTH};
-use lfs_host::Host;
-use lfs_json::Told;
+use lfs_host::{Host, Told};
 
 /// The least number of blocks of an image.
 const MIN_BLOCK_COUNT: usize = 2;

@@ -3,8 +3,7 @@
 ghost use Rattle.std.specs.Prelude.{◌≡◌};
 
 use crate::finding::Finding;
-use lfs_host::Host;
-use lfs_json::Told;
+use lfs_host::{Host, Told};
 use lfs_survey::Shown;
 use lfs_texts::Reason;
 use std::fmt;

@@ -21,8 +21,7 @@ use lfs_block::{ImageFault, MountFault};
 use lfs_command::{Command, Refusal};
 use lfs_exchange::report_of_image;
 use lfs_history::{Move, Source};
-use lfs_host::Host;
-use lfs_json::Told;
+use lfs_host::{Host, Told};
 use lfs_request::{Fault, Operation, OtherFault, Query, Request, TreeChange};
 use lfs_texts::Flaw;
 

@@ -9,9 +9,8 @@ use crate::standard::{Closed, is_closed};
 use lfs_block::MAX_IMAGE_LENGTH;
 use lfs_host::{
     Folders, Host, HostFault, HostKind, Known, ListFault, Lock, NewFolder, Out, ReadFault, Sink,
-    Text, write_later, write_rest,
+    Text, Told, write_later, write_rest,
 };
-use lfs_json::{Form, Told};
 use std::alloc::{AllocError, Global};
 use std::fmt::Display;
 use std::fs::{self, File};
@@ -38,8 +37,8 @@ enum Subject {
 #[derive(Drop)]
 pub struct Terminal<'a> {
     rt: &'a HostRuntime,
-    /// The form of what is reported on standard error.
-    form: Form,
+    /// Whether what is reported on standard error is told in JSON.
+    in_json: bool,
     /// What stands in the place of a standard file that is closed.
     closed: Closed,
     out: Out<Printer<'a, HostRuntime>>,
@@ -62,11 +61,11 @@ pub struct Terminal<'a> {
 }
 
 impl<'a> Terminal<'a> {
-    /// The host that the runtime stands for, on whose standard error all is reported in a form. No file of the program is open yet.
-    pub fn new(rt: &'a HostRuntime, form: Form) -> Terminal<'a> {
+    /// The host that the runtime stands for, on whose standard error all is told in JSON or as it is. No file of the program is open yet.
+    pub fn new(rt: &'a HostRuntime, in_json: bool) -> Terminal<'a> {
         Terminal {
             rt,
-            form,
+            in_json,
             closed: Closed::new(rt),
             out: Out::new(io::writer(rt)),
             image: None,
@@ -120,9 +119,10 @@ impl<'a> Terminal<'a> {
 
     /// Writes a text to standard error, in JSON by its alternate form.
     fn write_report<D: Display + Drop>(&self, text: D) {
-        let _ = match self.form {
-            Form::Text => self.rt.eprint(text),
-            Form::Json => self.rt.eprint(format_args!("{text:#}")),
+        let _ = if self.in_json {
+            self.rt.eprint(format_args!("{text:#}"))
+        } else {
+            self.rt.eprint(text)
         };
     }
 

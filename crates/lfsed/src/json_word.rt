@@ -2,8 +2,6 @@
 
 ghost use Rattle.std.specs.Prelude.{◌<◌, IsTrue, length};
 
-use lfs_json::Form;
-
 /// Whether the word behind the program's name asks for JSON.
 fn asks_for_json(words: &[String]) -> bool
     ensures { IsTrue result → 1 < length words.now }
@@ -24,16 +22,16 @@ fn prints_rows(words: &[String]) -> bool
     }
 }
 
-/// The form of what is told on standard error, as a word in front of the command says it. That word is taken away, or put behind a command
-/// that prints rows.
-pub fn told_form(words: &mut Vec<String>) -> Form {
+/// Whether what is told on standard error is told in JSON, as a word in front of the command asks for. That word is taken away, or put behind
+/// a command that prints rows.
+pub fn told_in_json(words: &mut Vec<String>) -> bool {
     if !asks_for_json(words) {
-        return Form::Text;
+        return false;
     }
     if prints_rows(words) {
         words.swap(1, 2);
     } else {
         words.remove(1);
     }
-    Form::Json
+    true
 }

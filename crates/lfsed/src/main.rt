@@ -8,11 +8,10 @@ mod usage_line;
 mod way;
 
 use crate::cli::{USAGE, cli as run_words};
-use crate::json_word::told_form;
+use crate::json_word::told_in_json;
 use lfs_command::Refusal;
 use lfs_exchange::report;
 use lfs_host::Host;
-use lfs_json::Form;
 use lfs_request::Fault;
 use lfs_system::Terminal;
 use std::io::ErrorKind;
@@ -27,10 +26,14 @@ fn main(rt: HostRuntime) -> ExitCode {
 fn status(rt: &HostRuntime) -> u8 {
     match words(rt) {
         Ok(mut words) => {
-            let form = told_form(&mut words);
-            run_words(rt.alloc(), &mut Terminal::new(rt, form), words.as_slice())
+            let in_json = told_in_json(&mut words);
+            run_words(
+                rt.alloc(),
+                &mut Terminal::new(rt, in_json),
+                words.as_slice(),
+            )
         }
-        Err(error) => without_words(&mut Terminal::new(rt, Form::Text), error),
+        Err(error) => without_words(&mut Terminal::new(rt, false), error),
     }
 }
 

@@ -1,7 +1,7 @@
 //! What is told of words that are refused.
 
 use crate::cli::USAGE;
-use lfs_json::Quoted;
+use lfs_host::Quoted;
 use std::fmt;
 
 /// A text on words that are refused: as it is, or in the alternate form an object of JSON a line.
