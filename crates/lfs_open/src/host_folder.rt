@@ -50,7 +50,7 @@ fn pack_row(row: &FolderRow) -> PackRow<'_>
 }
 
 /// A folder's rows, as they are packed.
-pub fn pack_rows(alloc: Global, folder: &[FolderRow]) -> Result<Vec<PackRow<'_>>, AllocError>
+pub fn rows_to_pack(alloc: Global, folder: &[FolderRow]) -> Result<Vec<PackRow<'_>>, AllocError>
     ensures { IfOk result (λ rows. map pack_text rows.items ≡ map text_of_folder_row folder.now) }
 {
     let mut rows = Vec::new(alloc);

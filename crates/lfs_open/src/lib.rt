@@ -26,7 +26,7 @@ mod viewing;
 pub use extracting::extracted;
 pub use finding::find_images;
 pub use found::Found;
-pub use host_folder::{folder_of, pack_rows};
+pub use host_folder::{folder_of, rows_to_pack};
 pub use later::pass;
 pub use least::{counted, counted_for};
 pub use line_moves::{commands_of, moves_of, read_lines};

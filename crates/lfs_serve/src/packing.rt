@@ -10,7 +10,7 @@ use crate::stepping::stepped;
 use lfs_exchange::{StepKind, taken_up};
 use lfs_fs::Limits;
 use lfs_host::Host;
-use lfs_open::{counted, folder_of, pack_rows};
+use lfs_open::{counted, folder_of, rows_to_pack};
 use lfs_pack::PackRow;
 use lfs_report::{Context, Stop, with_need, with_row};
 use lfs_request::{Extent, Request};
@@ -33,7 +33,7 @@ pub(crate) fn packed<H: Host>(
     ensures rest { OperationLeavesRest (Pack extent limits dir.entry) (H.known host.old) (H.known host.new) }
 {
     let folder = folder_of(alloc, host, dir)?;
-    let rows = pack_rows(alloc, &folder)?;
+    let rows = rows_to_pack(alloc, &folder)?;
     let rows = rows.as_slice();
     let count = counted(alloc, request.size, extent, limits, rows)?;
     let handed = taken_up(alloc, host, StepKind::Makes, 0, request.image)?;

@@ -4,6 +4,7 @@ use lfs_block::{Image, geometry_ok};
 use lfs_extract::{ExtractFault, FolderFault, FolderRow, extract_rows, folder_rows};
 use lfs_fs::mount;
 use lfs_host::{Failing, MadeEntry, MemoryHost};
+use lfs_open::rows_to_pack;
 use lfs_pack::{PackRow, pack};
 use std::alloc::{AllocError, Global};
 
@@ -89,22 +90,9 @@ pub(crate) fn packed(alloc: Global, size: u32, count: u32, rows: &[PackRow<'_>])
     }
 }
 
-/// What is packed for the rows of a folder.
-fn pack_rows(alloc: Global, folder: &[FolderRow]) -> Result<Vec<PackRow<'_>>, AllocError> {
-    let mut rows = Vec::new(alloc);
-    for row in folder {
-        rows.push(PackRow {
-            path: row.path.as_slice(),
-            bytes: row.bytes.as_deref(),
-            attributes: &[],
-        })?;
-    }
-    Ok(rows)
-}
-
 /// An image of 8 blocks of 512 bytes with what a folder's rows have.
 fn image_of(alloc: Global, folder: &[FolderRow]) -> Option<Image> {
-    match pack_rows(alloc, folder) {
+    match rows_to_pack(alloc, folder) {
         Ok(rows) => packed(alloc, 512, 8, &rows),
         Err(_) => None,
     }

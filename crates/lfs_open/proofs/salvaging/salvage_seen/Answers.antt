@@ -19,8 +19,8 @@ returns-in_err-extract_mounted-in-Ok-clause-made g c =
     let on = c.from_residual in
     let p = err_from_is_err_and on.result on.ensures.1 in
     let d = c.args.image.now.disk in
-    bytes_mounted c.args.dir.now old.tree old.made new (kept_bytes c.args.own) d.size d.bytes d c.requires.disk refl refl (stopped_by on.result) made (stopped_at on.result fault p.0 p.1 p.2 ∙ told) c.extract_mounted.ensures.other
-    c.extract_mounted.ensures.made
+    bytes_mounted c.args.dir.now old.tree old.made new (kept_bytes c.args.own) d.size d.bytes d c.requires.disk refl refl (stopped_by on.result) made
+    (stopped_at on.result fault p.0 p.1 p.2 ∙ told) c.extract_mounted.ensures.other c.extract_mounted.ensures.made
 
 pub returns-in_ok-extract_mounted-in-Ok-clause-made : goal.returns-in_ok-extract_mounted-in-Ok-clause-made
 returns-in_ok-extract_mounted-in-Ok-clause-made g c =

@@ -28,10 +28,13 @@ returns-in-Ok-clause-answers c =
     let asked = plan_asked (rows_in change) plan in
     let journal = c.args.journal.items in
     let is = at_bytes d d.size d.bytes (λ x. IsAsked change x asked) c.requires.disk refl refl c.in-Ok.ensures.planned in
-    let sized = subst (λ (n : ℕ). AnswersChange o.fault (Together (plan_asked (rows_in change) c.deref.result.now) keep ∷ []) n c.into_bytes-image.result.items journal o) c.size-size.ensures.value c.plan_changed-outcome.ensures.answers in
-    let bytes = subst (λ (b : List ℕ). AnswersChange o.fault (Together (plan_asked (rows_in change) c.deref.result.now) keep ∷ []) d.size b journal o) c.into_bytes-image.ensures sized in
+    let sized = subst (λ (n : ℕ). AnswersChange o.fault (Together (plan_asked (rows_in change) c.deref.result.now) keep ∷ []) n c.into_bytes-image.result.items journal o)
+    c.size-size.ensures.value c.plan_changed-outcome.ensures.answers in
+    let bytes = subst (λ (b : List ℕ). AnswersChange o.fault (Together (plan_asked (rows_in change) c.deref.result.now) keep ∷ []) d.size b journal o)
+    c.into_bytes-image.ensures sized in
     let planned = subst (λ (l : List _). AnswersChange o.fault (Together (plan_asked (rows_in change) l) keep ∷ []) d.size d.bytes journal o) c.deref.ensures.value bytes in
-    let telling = told o.fault (Together asked keep ∷ []) d.size d.bytes journal o p (ap (λ v. v.items) c.with_command.ensures.kept.0) c.with_command.ensures.kept.1 c.with_command.ensures.at planned in
+    let telling = told o.fault (Together asked keep ∷ []) d.size d.bytes journal o p (ap (λ v. v.items) c.with_command.ensures.kept.0)
+    c.with_command.ensures.kept.1 c.with_command.ensures.at planned in
     subst (λ (f : Option Fault). AnswersBy f (Tree change keep) (given d.size d.bytes journal) p) (sym c.with_command.ensures.fault)
     (commands_answer change keep o.fault asked d.size d.bytes journal p is telling)
 

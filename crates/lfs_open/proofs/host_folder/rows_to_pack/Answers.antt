@@ -3,7 +3,7 @@ use Rattle.std.proofs.Common.{rules, ◌≡◌, ◌+◌, ◌++◌, ◌∷◌, []
 use Rattle.std.proofs.Math.ListN.{drop_of_length-le}
 use Rattle.lfs_fs.proofs.ItemLemmas.{drop_at}
 use Rattle.lfs_open.proofs.HostFolderLemmas.{IsPackedTo, all_packed, packed_further}
-use Rattle.lfs_open.proofs.host_folder.pack_rows.Goals as goal
+use Rattle.lfs_open.proofs.host_folder.rows_to_pack.Goals as goal
 
 pub each-preserved : goal.each-preserved
 each-preserved c =
