@@ -86,35 +86,35 @@ _lfsed() {
       words='IMAGE'
       ;;
     mkdir)
-      options='-b --block -p --parents --keep --older -h --help'
+      options='-b --block -p --parents --keep -h --help'
       words='IMAGE PATH'
       ;;
     put)
-      options='-b --block --from -p --parents --keep --older -h --help'
+      options='-b --block --from -p --parents --keep -h --help'
       words='IMAGE PATH'
       ;;
     rm)
-      options='-b --block -r --recursive --keep --older -h --help'
+      options='-b --block -r --recursive --keep -h --help'
       words='IMAGE PATH'
       ;;
     mv)
-      options='-b --block --keep --older -h --help'
+      options='-b --block --keep -h --help'
       words='IMAGE FROM TO'
       ;;
     setattr)
-      options='-b --block --keep --older -h --help'
+      options='-b --block --keep -h --help'
       words='IMAGE PATH KIND HEX'
       ;;
     rmattr)
-      options='-b --block --keep --older -h --help'
+      options='-b --block --keep -h --help'
       words='IMAGE PATH KIND'
       ;;
     grow)
-      options='-b --block --size --keep --older -h --help'
+      options='-b --block --size --keep -h --help'
       words='IMAGE COUNT'
       ;;
     sync)
-      options='-b --block --keep --older -h --help'
+      options='-b --block --keep -h --help'
       words='IMAGE DIR PATH'
       ;;
     undo)
@@ -130,7 +130,7 @@ _lfsed() {
       words='IMAGE'
       ;;
     batch)
-      options='-b --block --one --keep --older -h --help'
+      options='-b --block --one --keep -h --help'
       words='IMAGE FILE'
       ;;
     explain)

@@ -6,7 +6,7 @@ import os
 import subprocess
 import sys
 
-from later import APPENDED, REFUSED_CHANGE, TOLD
+from later import APPENDED, REFUSED_CHANGE
 from support.folder import PROGRAM, contents, run_scenes
 from support.journal import journal, word
 from support.littlefs import Reader
@@ -464,13 +464,9 @@ def images_that_are_refused(folder):
 
 
 def later_commits(folder):
-    """Commits of a later version are refused, or told of, as with other commands."""
+    """Commits of a later version are refused, as with other commands."""
     batch = Batch(folder)
-    refused = f"lfsed: 31 Exists\nlfsed: steps: line 2: mkdir /old\n{TOLD}"
-    for text, status, told in (b"mkdir /made\n", 0, TOLD), (b"# none\n", 0, TOLD), (b"mkdir /made\nmkdir /old\n", 1, refused):
-        folder.be(APPENDED, 0)
-        ended = batch.batch(text, "--older")
-        folder.check(f"older: {text}", ended == (status, told, b""), ended)
+    for text in b"mkdir /made\n", b"# none\n", b"mkdir /made\nmkdir /old\n":
         folder.be(APPENDED, 0)
         ended = batch.batch(text)
         folder.check(f"later: {text}", ended == (3, REFUSED_CHANGE, b""), ended)

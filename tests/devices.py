@@ -528,7 +528,10 @@ def commands_that_change_an_image_name_repack(folder):
             if line.startswith("forget") and row.without != "changed":
                 continue
             ended = folder.run(line)
-            folder.check(f"{name}: {line}", is_told(ended, [fault], second.format("repack --device")), ended)
+            told = second.format("repack --device")
+            if not line.startswith(("undo", "redo", "forget")):
+                told = told.replace(", --older goes on with the state before that", "")
+            folder.check(f"{name}: {line}", is_told(ended, [fault], told), ended)
         folder.check(f"{name}: it stands", (folder.old(), folder.saved()) == (row.image, None))
 
 

@@ -6,6 +6,7 @@ import random
 import re
 import shutil
 import sys
+import time
 from typing import NamedTuple
 
 from devices import (
@@ -13,10 +14,11 @@ from devices import (
     plain, raised, root, spelled,
 )
 from repacking import is_made, limits_of
+from support.beginnings import found, live, logs_of, place_of
 from support.folder import contents, run_scenes
 from support.later import FIRST, LATER, DeviceReader, LaterScattered, appended, written
 from support.littlefs import Reader
-from support.logs import chained, created, file, image, log, superblock
+from support.logs import HARD, SOFT, chained, created, directory, file, image, log, superblock, tail
 from support.scattering import Scattered, laid
 from support.texts import compared, difference_of, ended_by, listed, said
 
@@ -240,13 +242,18 @@ def sizes_of_blocks_are_found(folder):
     """By `auto`, which looks at the file from the place on; of `repack` it stands where it isn't said."""
     for size in 256, 272, 512, 4_096, 65_536:
         front, made = superblock(size, 4) + EARLY, [*created(0), *superblock(size, 4), *created(1), *EARLY]
+        name, words = superblock(size, 4)
         for held, options in (
             (image(size, 4, {0: log(1, front)}), ""), (image(size, 4, {0: bytes(4), 1: log(1, front)}), ""),
+            (image(size, 4, {0: log(1, [name, *EARLY, words])}), ""), (image(size, 4, {0: log(2, front), 1: log(1, front[:2])}), ""),
             (image(size, 4, {0: log(1, made)}), ""), (image(size, 4, {0: written(1, size, root(EARLY, size=size, count=4))}), " --device"),
         ):
             reader = (DeviceReader if options else Reader)(held, size)
             for before, behind in (noise(size + 3), noise(700)), (plain(512)[0], erased(2 * size)):
                 is_read(folder, f"auto {size}", inside(held, before, behind), reader, options, block="auto")
+    for held in joined(TWO, [[], former(EARLY)]), joined(THREE, [former(), [], former(EARLY)]):
+        reader = DeviceReader(held, SIZE)
+        is_read(folder, "auto, expanded", inside(held, noise(99), noise(700)), reader, " --device", block="auto")
     for held in bytes(9_000), noise(9_000):
         flash = inside(held[:8_192], PLAIN, held[8_192:])
         ends = are_alike(folder, "no size", flash, 4_096, block="auto")
@@ -446,9 +453,9 @@ def random_trees(folder):
             folder.check(f"tree {number}: ls", ended == (0, "", listed(reader.tree())), ended)
 
 
-def begins_as_an_image(held):
-    """Whether a superblock's name stands in front of bytes."""
-    return held[8:16] == b"littlefs"
+def begins(held, size=SIZE):
+    """Whether an image begins with the bytes, in whose block 0 a commit stands."""
+    return place_of(held, 0, size) is not None and 0 in logs_of(held) and live(held, 0, size, (0, 0)) is not None
 
 
 def find_line(at, size, count, verdict="mounts", version="2.0"):
@@ -515,40 +522,46 @@ SMALL = image(SIZE, 2, {0: log(1, superblock(SIZE, 2))})
 OUTER = eight({0: log(1, superblock(SIZE, COUNT) + chained(1, b"f", 5, len(SMALL))), **laid(SIZE, [7, 2, 5], SMALL)})
 
 
+# The same, where the file has another head than its first block.
+UNMOUNTED = eight({0: log(1, superblock(SIZE, COUNT) + chained(1, b"f", 8, len(SMALL))), **laid(SIZE, [7, 2, 5], SMALL)})
+
+
 def images_within_others(folder):
     """What stands in an image that mounts is passed over, and what stands in one that doesn't isn't."""
     for before in b"", noise(333):
         at = len(before)
         small, behind = find_line(at + 7 * SIZE, SIZE, 2), at + COUNT * SIZE
         finds(folder, "within another", before + OUTER + noise(2 * SIZE), [find_line(at, SIZE, COUNT)])
-        finds(folder, "within a damaged one", before + damaged(OUTER) + erased(2 * SIZE), [find_line(at, SIZE, COUNT, "3 NoValidCommit"), small])
+        finds(folder, "within one without a commit", before + damaged(OUTER) + erased(2 * SIZE), [small])
+        finds(folder, "within one that doesn't mount", before + UNMOUNTED + erased(2 * SIZE), [find_line(at, SIZE, COUNT, "8 BadSkipList"), small])
         finds(folder, "behind another", before + OUTER + SMALL + OUTER, [
             find_line(at, SIZE, COUNT), find_line(behind, SIZE, 2), find_line(behind + 2 * SIZE, SIZE, COUNT)])
-        finds(folder, "behind a damaged one", before + damaged(SMALL) + OUTER, [
-            find_line(at, SIZE, 2, "3 NoValidCommit"), find_line(at + 2 * SIZE, SIZE, COUNT)])
+        finds(folder, "behind one without a commit", before + damaged(SMALL) + OUTER, [find_line(at + 2 * SIZE, SIZE, COUNT)])
+        finds(folder, "behind one that doesn't mount", before + UNMOUNTED + erased(SIZE) + OUTER, [
+            find_line(at, SIZE, COUNT, "8 BadSkipList"), find_line(at + 7 * SIZE, SIZE, 2), find_line(behind + SIZE, SIZE, COUNT)])
 
 
 def a_superblock_in_each_block_of_a_pair(folder):
-    """The second one is passed over with an image that mounts; else it is told by itself, where what it states fits behind it."""
+    """The second one is passed over with an image that mounts. Where it stands alone, the image begins a block before it: its directories
+    say so, and else the revision of what stands there."""
     both = eight({0: log(1, AS_SHORT), 1: log(2, AS_SHORT)})
-    neither = damaged(both[:SIZE]) + damaged(both[SIZE:])
-    for before in b"", noise(511), erased(9):
+    with_directory = eight({1: log(2, superblock(SIZE, COUNT) + directory(1, b"d", (2, 3)) + tail(SOFT, (2, 3))), 2: log(1, [])})
+    for before in b"", noise(511), erased(9), noise(3 * SIZE):
         at = len(before)
         finds(folder, "both", before + both + erased(SIZE), [find_line(at, SIZE, COUNT)])
-        refused = [find_line(at + step, SIZE, COUNT, "3 NoValidCommit") for step in (0, SIZE)]
-        finds(folder, "neither", before + neither, refused[:1])
-        finds(folder, "neither, and less than a block", before + neither + erased(SIZE - 1), refused[:1])
-        finds(folder, "neither, and a block", before + neither + erased(SIZE), refused)
-        first = before + damaged(both[:SIZE]) + both[SIZE:]
-        finds(folder, "the second one", first + erased(SIZE), [find_line(at, SIZE, COUNT)])
+        for behind in b"", erased(SIZE - 1), erased(SIZE):
+            finds(folder, "neither", before + damaged(both[:SIZE]) + damaged(both[SIZE:]) + behind, [])
+            finds(folder, "the first one", before + both[:SIZE] + damaged(both[SIZE:]) + behind, [find_line(at, SIZE, COUNT)])
+            finds(folder, "the second one", before + damaged(both[:SIZE]) + both[SIZE:] + behind, [find_line(at, SIZE, COUNT)])
+            finds(folder, "behind an erased one", before + with_directory + behind, [find_line(at, SIZE, COUNT)])
 
 
 def images_that_are_refused(folder):
-    """Each with its fault, as a device reads it. Where no superblock stands in front nothing is listed."""
+    """Each with its fault, as a device reads it. Where no commits lead to a superblock nothing is listed."""
     held, wanted = b"", []
     for name, row in REFUSED.items():
         held += noise(len(name))
-        wanted += [] if name == "no superblock" else [find_line(len(held), SIZE, COUNT, row.wanted, "2.1")]
+        wanted += [find_line(len(held), SIZE, COUNT, row.wanted, "2.1")] if begins(row.image) else []
         held += row.image
     others = [
         (eight({0: log(1, root(version=0x0002_0002))}), "10 Version", "2.2"), (eight({0: log(1, root(version=0x0003_0000))}), "10 Version", "3.0"),
@@ -556,11 +569,11 @@ def images_that_are_refused(folder):
         (eight({0: log(1, superblock(SIZE, COUNT, 3) + EARLY)}), "20 BadSize", "2.0"),
         (eight({0: log(1, superblock(SIZE, COUNT) + chained(1, b"c", 8, 100))}), "8 BadSkipList", "2.0"),
         (eight({0: log(1, superblock(SIZE, COUNT) + file(1, b"f")[:1])}), "6 IncompleteEntry", "2.0"),
-        (damaged(eight({0: written(1, SIZE, root(EARLY))})), "3 NoValidCommit", "2.1"),
     ]
     for each, verdict, version in others:
         wanted.append(find_line(len(held), SIZE, COUNT, verdict, version))
         held += each + erased(5)
+    held += damaged(eight({0: written(1, SIZE, root(EARLY))})) + erased(5)
     finds(folder, "refused ones", held, wanted)
     places = each_says_what_check_does(folder, "refused ones")
     folder.check("find: refused ones: as many", len(places) == len(wanted), places)
@@ -595,9 +608,8 @@ def files_without_an_image(folder):
 
 
 def lengths_that_images_go_on_to(folder):
-    """What stands behind an image's first struct may state another length: the search goes on where the image ends. What the first
-    struct states, or a later one, isn't looked at here."""
-    for name, held in [(name, held) for name, (held, _) in LENGTHS.items() if begins_as_an_image(held)]:
+    """What stands behind an image's first struct may state another length: the last one counts, and the search goes on where it ends."""
+    for name, held in [(name, held) for name, (held, _) in LENGTHS.items() if begins(held)]:
         for before in b"", noise(700):
             beside(folder, FLASH).write_bytes(before + held + OUTER + noise(9 * SIZE))
             places = each_says_what_check_does(folder, name)
@@ -610,8 +622,44 @@ def images_of_devices_are_found(folder):
         before = (noise if number % 2 else erased)(13 * number)
         beside(folder, FLASH).write_bytes(before + row.image + noise(number))
         places = each_says_what_check_does(folder, name)
-        if isinstance(row.wanted, dict) and begins_as_an_image(row.image):
+        if isinstance(row.wanted, dict) and begins(row.image, row.size):
             folder.check(f"find: {name}: mounts", places == [(len(before), "mounts")], places)
+
+
+def images_at_offsets(folder):
+    """Images as devices leave them, as chance has them, in dumps: `find` lists each at its first block and nothing else, and `auto` finds the
+    size of its blocks. Where block 0 was erased, nothing may say that the image begins there."""
+    chance = random.Random(60)
+    for number in range(80):
+        size, count = chance.choice([(256, 40), (256, 90), (512, 24), (1_024, 16), (4_096, 9)])
+        held = LaterScattered(chance, size, count).image
+        before, behind = (chance.choice([noise, erased, bytes])(chance.choice([0, chance.randrange(9_000)])) for _ in range(2))
+        beside(folder, FLASH).write_bytes(before + held + behind)
+        ended = folder.run(f"check -b auto --device --offset {len(before)} {FLASH}")
+        folder.check(f"at an offset {number}: auto", ended == (0, "", said(DeviceReader(held, size))), ended)
+        if begins(held, size):
+            wanted = [(place.at, "mounts") for place, _ in found(before + held + behind, lambda place: place.at == len(before))]
+            places = each_says_what_check_does(folder, f"at an offset {number}")
+            folder.check(f"at an offset {number}: find", places == wanted == [(len(before), "mounts")], (places, wanted))
+
+
+# What a device may write in front of a first pair, again and again: names, logs that state nothing, logs that state an image, and images
+# that don't mount.
+HOSTILE = {
+    "names": 9_000 * log(1, superblock(256, 4_000))[:16],
+    "tails": 9_000 * log(1, tail(HARD, (1, 2))),
+    "superblocks": 9_000 * log(1, superblock(256, 4_000) + tail(SOFT, (2, 3))),
+    "superblocks of many sizes": b"".join(log(1, superblock(16 * size, 2) + tail(SOFT, (0, 1))) for size in range(16, 4_097)),
+}
+
+
+def files_made_to_slow_it_down(folder):
+    for name, held in HOSTILE.items():
+        beside(folder, FLASH).write_bytes(held)
+        began = time.monotonic()
+        ended = folder.run(f"find {FLASH}")
+        folder.check(f"find: {name}: status", ended[:2] == (0, ""), ended[:2])
+        folder.check(f"find: {name}: time", time.monotonic() - began < 20, time.monotonic() - began)
 
 
 def images_in_large_files(folder):
@@ -639,5 +687,6 @@ if __name__ == "__main__":
         sizes_of_blocks_are_found, nothing_is_read, lengths_that_the_file_hasnt, images_are_compared, an_image_in_the_files_place,
         files_larger_than_an_image, places_in_large_files_at_which_nothing_is, words_that_are_refused, files_that_are_not_read, random_trees,
         several_images_are_found, images_within_others, a_superblock_in_each_block_of_a_pair, images_that_are_refused, geometries_that_dont_fit,
-        files_without_an_image, lengths_that_images_go_on_to, images_of_devices_are_found, images_in_large_files,
+        files_without_an_image, lengths_that_images_go_on_to, images_of_devices_are_found, images_at_offsets, files_made_to_slow_it_down,
+        images_in_large_files,
     ]))

@@ -1,13 +1,13 @@
 #!/usr/bin/env python3
-"""Images that a later littlefs has written: commits of disk version 2.1, from a writer apart from the program. Where such stand
-behind what version 2.0 reads, or in the block that a device takes for the live one, each command refuses the image; with `--older` it
-goes on with the state before them, and says so. Where they are unfinished, stale or of version 2.0 nothing is said."""
+"""Images that a later littlefs has written: commits of disk version 2.1, from a writer apart from the program. If such commits stand after
+what version 2.0 reads, or in the block that a device takes for the live one, each command refuses the image. With `--older` a command that
+reads the image takes the state before them, and reports it; a command that changes it has no such option, since what it writes would drop
+what the device wrote. If they are unfinished, stale or of version 2.0 nothing is reported."""
 import struct
 import sys
 
 from support.folder import run_scenes
 from support.later import FIRST, LATER, LaterDraft
-from support.littlefs import Reader
 from support.logs import Draft, attribute, file, image, superblock
 
 SIZE, COUNT = 512, 8
@@ -19,7 +19,8 @@ CHANGED_BY_DEVICE = (
 )
 REFUSED = "lfsed: 10 Version\n" + CHANGED_BY_DEVICE
 REFUSED_OTHER = REFUSED.replace("a.img", "b.img")
-REFUSED_CHANGE = REFUSED.replace("--device", "repack --device")
+REFUSED_MOVE = REFUSED.replace("--device", "repack --device")
+REFUSED_CHANGE = REFUSED_MOVE.replace(", --older goes on with the state before that", "")
 SAID = "block 512, count 8, free 6, directories 1, files 1\n"
 
 
@@ -71,18 +72,18 @@ ASKED = [
     ("log -b 512 a.img", ""),
 ]
 
-# What changes those, or isn't carried out.
-CHANGED = [
-    ("put -b 512 a.img /more", 0, ""),
-    ("mkdir -b 512 a.img /made", 0, ""),
-    ("mv -b 512 a.img /old /moved", 0, ""),
-    ("rm -b 512 a.img /old", 0, ""),
-    ("setattr -b 512 a.img /old 74 01", 0, ""),
-    ("grow -b 512 a.img 9", 0, ""),
+# Commands that change the image: none goes on with an older state.
+CHANGES = [
+    "put -b 512 a.img /more", "put -p -b 512 a.img /n/more", "mkdir -b 512 a.img /made", "mkdir -p -b 512 a.img /n/m", "mv -b 512 a.img /old /moved",
+    "rm -b 512 a.img /old", "rm -r -b 512 a.img /old", "setattr -b 512 a.img /old 74 01", "rmattr -b 512 a.img /old 74", "grow -b 512 a.img 9",
+    "sync -b 512 a.img .", "batch -b 512 a.img",
+]
+
+# What moves along a history, or drops it.
+MOVES = [
     ("forget -b 512 a.img", 0, ""),
     ("undo -b 512 a.img", 1, "lfsed: 53 NothingToUndo\n"),
     ("redo -b 512 a.img", 1, "lfsed: 54 NothingToRedo\n"),
-    ("mkdir -b 512 a.img /old", 1, "lfsed: 31 Exists\nlfsed: a.img: /old: something is there\n"),
 ]
 
 STALE = Draft(1).add(superblock(SIZE, COUNT)).close_at(16).bytes
@@ -103,32 +104,47 @@ UNSAID = {
 }
 
 
-def each_command_goes_on_where_it_is_told_to(folder):
+def older_states_are_read(folder):
     for name, latest in LATEST.items():
         for words, printed in ASKED:
             folder.be(latest, 0)
             folder.play([(f"{words} --older", 0, 0, TOLD, printed)])
             folder.check(f"{name}: {words}", folder.old() == latest)
-        for words, status, complaint in CHANGED:
+        for words, status, complaint in MOVES:
             folder.be(latest, 0)
             folder.play([(f"{words} --older", 4, status, complaint + TOLD, "")])
+            folder.check(f"{name}: {words}", folder.old() == latest)
 
 
-def a_block_that_is_written_anew_ends_it(folder):
+def no_older_state_is_changed(folder):
     for name, latest in LATEST.items():
-        folder.be(latest, 0)
-        # What is appended to block 0 leaves block 1 the later one.
-        told = TOLD if name == "rewritten" else ""
-        folder.play([("put -b 512 --older a.img /more", 4, 0, TOLD, ""), ("cat -b 512 --older a.img /more", 0, 0, told, 4)])
-        paths = [path for path, _ in Reader(folder.old(), SIZE).rows()]
-        folder.check(f"{name}: what stands there", paths == [b"/", b"/more", b"/old"], paths)
+        for words in CHANGES:
+            folder.be(latest, 0)
+            status, told, printed = folder.run(f"{words} --older")
+            folder.check(f"{name}: {words}", (status, printed) == (2, b"") and told.startswith("error: unexpected argument '--older' found\n"), told)
+            folder.check(f"{name}: {words}: the files", (folder.old(), folder.saved()) == (latest, None))
+
+
+def a_change_of_an_older_state_is_taken_back(folder):
+    """What earlier releases made of an image whose device had rewritten the other block: `undo --older` leads back."""
+    folder.be(PLAIN, 0)
+    folder.play([("put -b 512 a.img /more", 4, 0, "", "")])
+    folder.image.write_bytes(folder.old()[:SIZE] + REWRITTEN[SIZE:])
+    changed = folder.old()
+    folder.play([("undo -b 512 a.img", 0, 3, REFUSED_MOVE, "")])
+    folder.check("refused", folder.old() == changed)
+    folder.play([("undo -b 512 --older a.img", 0, 0, TOLD, ""), ("cat -b 512 --device a.img /new", 0, 0, "", "new")])
+    folder.check("taken back", folder.old() == REWRITTEN)
 
 
 def each_command_refuses_them(folder):
     for name, latest in LATEST.items():
-        for words in [words for words, *_ in ASKED + CHANGED] + ["ls -b 512 a.img"]:
+        rows = [(words, REFUSED) for words in ("check -b 512 a.img", "cat -b 512 a.img /old", "ls -b 512 a.img")]
+        rows += [(words, REFUSED_MOVE) for words in ("log -b 512 a.img", *(words for words, *_ in MOVES))]
+        rows += [(words, REFUSED_CHANGE) for words in CHANGES]
+        for words, refused in rows:
             folder.be(latest, 0)
-            folder.play([(words, 4, 3, REFUSED if words.split(" ")[0] in ("check", "cat", "ls") else REFUSED_CHANGE, "")])
+            folder.play([(words, 0, 3, refused, "")])
             folder.check(f"{name}: refused: {words}", (folder.old(), folder.saved()) == (latest, None))
         folder.be(latest, 0)
         folder.play([("extract -b 512 a.img made", 0, 3, REFUSED, "")])
@@ -147,10 +163,10 @@ def a_later_image_states_its_version(folder):
     for name, (formatted, place) in FORMATTED.items():
         states = f"lfsed: 3 NoValidCommit\nlfsed: a.img: its {place} block states disk version 2.1: "
         asked, changed = states + "--device reads it\n", states + "repack --device reads it\n"
-        for older in "", " --older":
-            folder.be(formatted, 0)
-            folder.play([(f"check -b 512 a.img{older}", 0, 3, asked, ""), (f"put -b 512 a.img /more{older}", 4, 3, changed, "")])
-            folder.check(f"{name}{older}", folder.old() == formatted)
+        folder.be(formatted, 0)
+        folder.play([(f"check -b 512 a.img{older}", 0, 3, asked, "") for older in ("", " --older")])
+        folder.play([("put -b 512 a.img /more", 4, 3, changed, ""), ("undo --older -b 512 a.img", 0, 3, changed, "")])
+        folder.check(name, folder.old() == formatted)
 
 
 def images_are_compared(folder):
@@ -180,6 +196,6 @@ def an_image_is_extracted(folder):
 
 if __name__ == "__main__":
     sys.exit(run_scenes([
-        each_command_goes_on_where_it_is_told_to, a_block_that_is_written_anew_ends_it, each_command_refuses_them, nothing_is_said_of_others,
-        a_later_image_states_its_version, images_are_compared, an_image_is_extracted,
+        older_states_are_read, no_older_state_is_changed, a_change_of_an_older_state_is_taken_back, each_command_refuses_them,
+        nothing_is_said_of_others, a_later_image_states_its_version, images_are_compared, an_image_is_extracted,
     ]))

@@ -12,7 +12,7 @@ import sys
 import tempfile
 
 from batch import NOTHING_THERE, put_back
-from later import APPENDED, REFUSED_CHANGE, TOLD
+from later import APPENDED, REFUSED_CHANGE
 from support.folder import PROGRAM, contents, run_scenes, spread
 from support.journal import in_first_version, read
 from support.littlefs import DIRECTORY, ROOT, Reader
@@ -789,20 +789,6 @@ def faults_of_the_image(folder):
         folder.check(f"{words}: a later version", ended == (3, REFUSED_CHANGE, b"") and trees.files() == (APPENDED, None, []), ended)
 
 
-def states_before_a_later_version(folder):
-    """What a later version wrote behind it is told of, whether something changes or not."""
-    trees = Trees(folder)
-    trees.holds({b"/old": b"old"})
-    for words, changes in (
-        (["sync", "--older", "a.img", "src"], False), (["sync", "--older", "a.img", "src", "/n"], True),
-        (["rm", "-r", "--older", "a.img", "/old"], True), (["mkdir", "-p", "--older", "a.img", "/"], False),
-        (["mkdir", "-p", "--older", "a.img", "/n/m"], True), (["put", "-p", "--older", "a.img", "/n/m"], True),
-    ):
-        folder.be(APPENDED, 0)
-        trees.does(f"{words}", words, b"new", TOLD)
-        folder.check(f"{words}: changes", (folder.old() != APPENDED) == changes)
-
-
 def what_is_not_read(folder):
     """Each call by which the folder and the image are read is refused in turn."""
     trees = Trees(folder)
@@ -909,7 +895,6 @@ if __name__ == "__main__":
         removals_that_have_no_room,
         faults_of_the_folder_come_first,
         faults_of_the_image,
-        states_before_a_later_version,
         what_is_not_read,
         the_latest_changes_are_kept,
         several_are_undone_in_turn,

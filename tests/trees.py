@@ -86,10 +86,10 @@ def directories_of_three_parts_come_and_go(folder):
     blocks = Blocks(folder, 256)
     blocks.new(16)
     blocks.do("mkdir /d")
-    for command in "put", "rm":
+    for command, later, free in ("put", [(4, 5), (6, 7)], 8), ("rm", [], 12):
         for letter in "abcdef":
             blocks.do(f"{command} /d/{80 * letter}")
-        blocks.stand(f"six times {command}", [ROOT, (2, 3), (4, 5), (6, 7)], [ROOT, (2, 3)], 8)
+        blocks.stand(f"six times {command}", [ROOT, (2, 3), *later], [ROOT, (2, 3)], free)
     blocks.do("rm /d")
     blocks.stand("what is left", [ROOT], [ROOT], 14)
 

@@ -27,7 +27,8 @@ class Image:
     """An image in a file. `block` is the size of its blocks, which is read from the image where it isn't said.
 
     With `device` it is read as a device reads it, so disk version 2.1 too; with `offset` it begins at that byte of the file, and is only
-    read; with `older` the state before changes of a later version counts. Changes keep the latest `keep` of them, where that is said.
+    read; with `older` the state before changes of a later version is read, and no command changes it. Changes keep the latest `keep` of
+    them, where that is said.
 
     >>> image = format("a.img", block=512, count=16)
     >>> image.check().free
@@ -57,6 +58,8 @@ class Image:
 
     def _change(self, command: str, *words: Word, given: bytes = b"", **more: Union[None, bool, Word]) -> None:
         """Changes the image by a command."""
+        if self.older:
+            raise ValueError("an older state is only read, since a change would drop what the device wrote: repack makes an image of it")
         self._past(command, *words, given=given, keep=self.keep, **more)
 
     def check(self) -> Summary:

@@ -78,9 +78,11 @@ class Part:
         """Takes one tag of the log."""
         if kind == 0x4FF:
             del self.entries[number]
-        elif kind == 0x401 or kind >> 8 == 0 and number == len(self.entries):
+        elif kind == 0x401:
             self.entries.insert(number, Entry())
         if kind >> 8 == 0:
+            # A name makes room for all entries up to its own: those before it may follow.
+            self.entries += [Entry() for _ in range(len(self.entries), number + 1)]
             self.entries[number].named, self.entries[number].name = kind, value
         elif kind >> 8 == 2:
             self.entries[number].kind, self.entries[number].value = kind, value

@@ -352,6 +352,9 @@ class Run:
             return f"blocks are used twice: {sorted(new.used())}"
         directories = [pair for _, pair in new.rows() if pair]
         reached = [part.pair for pair in directories for part in new.parts_of(pair)]
+        empty = [part.pair for pair in directories for part in new.parts_of(pair)[1:] if not part.entries]
+        if empty:
+            return f"later parts of directories without entries: {empty}"
         names = [[entry.name for entry in new.entries(pair)] for pair in directories]
         if sorted(reached) != sorted(new.thread()) or names != [sorted(each, key=key) for each in names]:
             return f"the thread is {new.thread()}, {reached} are reached, and names are {names}"

@@ -12,11 +12,12 @@ use Rattle.lfs_fs.specs.Directory.{Part, Directory}
 use Rattle.lfs_fs.specs.Volume.{Volume}
 use Rattle.lfs_command.specs.declared.refusal.Refusal.TheVariants.{Exists, NotEmpty, IntoItself, IsRoot, EntryTooLarge, NoSpace, BadCount}
 use Rattle.lfs_command.specs.EntryEdit.{place}
-use Rattle.lfs_command.specs.DirectoryEdit.{link_parts, touch_last_of, absorb_in}
+use Rattle.lfs_command.specs.DirectoryEdit.{drop_later, link_parts, touch_last_of, absorb_in}
 use Rattle.lfs_command.specs.ThreadEdit.{add_after, take_out}
 use Rattle.lfs_command.specs.Command.{Command, Mkdir, Put, Rm, Mv, SetAttr, Grow}
 use Rattle.lfs_command.specs.Supplies.{nothing}
 use Rattle.lfs_command.specs.Edited.{edited}
+use Rattle.lfs_command.specs.Freed.{free_after}
 use Rattle.lfs_command.specs.Cut.{room, runs}
 use Rattle.lfs_command.specs.Need.{dirty_parts, need}
 use Rattle.lfs_command.specs.Verdict.{verdict}
@@ -124,12 +125,37 @@ unfolding place link_parts runs_after onto
 moved_to_itself = refl
 
 directory_has_a_file : verdict nested (Rm (letters_a 1 ∷ [])) ≡ Some NotEmpty
-unfolding take_out absorb_in runs_after onto
+unfolding drop_later take_out absorb_in runs_after onto
 directory_has_a_file = refl
 
 root_stays : verdict nested (Rm []) ≡ Some IsRoot
-unfolding take_out absorb_in runs_after onto
+unfolding drop_later take_out absorb_in runs_after onto
 root_stays = refl
+
+-- ---- a later part that is emptied
+
+-- a root in two parts, the later of which has only the file c, and a delta
+abbrev last_alone : Volume
+last_alone = volume 512 6 (record {
+  first = part (0, 1) (file (letters_a 1) ∷ file (letters_b 1) ∷ []);
+  more = record { pair = (2, 3); entries = file (letters_c 1) ∷ []; delta = 5; dirty = false } ∷ [];
+} ∷ [])
+
+-- the pairs of the parts that are set, with their deltas
+abbrev set_parts : Volume → List (Pair × ℕ)
+set_parts v = map (λ p. (p.pair, p.delta)) (dirty_parts v)
+
+emptied_part_leaves : set_parts (edited last_alone (Rm (letters_c 1 ∷ [])) nothing) ≡ ((0, 1), 5) ∷ []
+unfolding drop_later
+emptied_part_leaves = refl
+
+emptied_part_is_free : free_after last_alone (Rm (letters_c 1 ∷ [])) nothing (λ p. []) ≡ 2 ∷ 3 ∷ 4 ∷ 5 ∷ []
+unfolding drop_later
+emptied_part_is_free = refl
+
+emptied_part_is_free_after_a_move : free_after last_alone (Mv (letters_c 1 ∷ []) (letters_c 2 ∷ [])) nothing (λ p. []) ≡ 2 ∷ 3 ∷ 4 ∷ 5 ∷ []
+unfolding drop_later place link_parts
+emptied_part_is_free_after_a_move = refl
 
 -- ---- a full number of entries
 
@@ -148,7 +174,7 @@ abbrev heavy_root : Volume
 heavy_root = volume 256 2 (directory (0, 1) (file (letters_a 92) ∷ file (letters_b 92) ∷ file (letters_c 92) ∷ []) ∷ [])
 
 heavy_part_must_be_cut_first : verdict heavy_root (Rm (letters_c 92 ∷ [])) ≡ Some (NoSpace 2 0)
-unfolding take_out absorb_in runs_after onto
+unfolding drop_later take_out absorb_in runs_after onto
 heavy_part_must_be_cut_first = refl
 
 -- a root with an entry that has no room by itself
@@ -160,7 +186,7 @@ unfolding runs_after onto
 sibling_is_too_large = refl
 
 oversized_entry_may_go : verdict oversized_root (Rm (letters_a 250 ∷ [])) ≡ None
-unfolding take_out absorb_in runs_after onto
+unfolding drop_later take_out absorb_in runs_after onto
 oversized_entry_may_go = refl
 
 -- ---- two parts cut by one command

@@ -1,6 +1,6 @@
 -- Edits of a directory: which of its parts is set, and to what (own).
-use Rattle.std.specs.Prelude.{ℕ, Bool, true, List, [], ◌∷◌, ◌||◌, if◌then◌else◌, map, bit_xor}
-use Rattle.std.specs.List.{list_any}
+use Rattle.std.specs.Prelude.{ℕ, ◌==◌, Bool, true, List, [], ◌∷◌, ◌||◌, ◌&&◌, if◌then◌else◌, length, map, bit_xor}
+use Rattle.std.specs.List.{filter, list_any}
 use Rattle.lfs_meta.specs.Name.{Name}
 use Rattle.lfs_fs.specs.NameOrder.{precedes}
 use Rattle.lfs_fs.specs.Entry.{Entry, is_named}
@@ -24,10 +24,6 @@ has_name n p = list_any (is_named n) p.entries
 abbrev pub has_greater : Name → Part → Bool
 has_greater n p = list_any (λ e. precedes n e.name) p.entries
 
--- the entry of a name taken out; the part that had it is set
-abbrev pub unlink_in : Name → Directory → Directory
-unlink_in n = each_part (λ p. touch (has_name n p) (without n) p)
-
 -- the entry of a name changed; the part that has it is set
 abbrev pub change_in : Name → (Entry → Entry) → Directory → Directory
 change_in n f = each_part (λ p. touch (has_name n p) (changed n f) p)
@@ -35,6 +31,27 @@ change_in n f = each_part (λ p. touch (has_name n p) (changed n f) p)
 -- a part in front of a directory's parts
 abbrev pub behind : Part → Directory → Directory
 behind p d = record { first = p; more = parts d }
+
+-- a part that is set and takes up a delta
+abbrev pub taking_up : ℕ → Part → Part
+taking_up delta p = record { pair = p.pair; entries = p.entries; delta = bit_xor p.delta delta; dirty = true }
+
+-- Later parts of a kind are taken out. The part before each one is set, since its tail changes, and takes up the delta.
+unfoldable pub drop_later : (Part → Bool) → Part → List Part → Directory
+drop_later goes p [] = record { first = p; more = [] }
+drop_later goes p (q ∷ qs) = if goes q then drop_later goes (taking_up q.delta p) qs else behind p (drop_later goes q qs)
+
+-- the part has an entry of that name, and nothing else
+abbrev pub has_only : Name → Part → Bool
+has_only n p = has_name n p && length (without n p.entries) == 0
+
+-- the later parts of a directory that have no entry once that of a name is taken out
+abbrev pub emptied_in : Name → Directory → List Part
+emptied_in n d = filter (has_only n) d.more
+
+-- The entry of a name is taken out: a later part that has no other entry leaves the directory; any other part that had it is set.
+abbrev pub unlink_in : Name → Directory → Directory
+unlink_in n d = each_part (λ p. touch (has_name n p) (without n) p) (drop_later (has_only n) d.first d.more)
 
 -- an entry put into the part of the first entry with a greater name, else into the last part; that part is set
 unfoldable pub link_parts : Entry → Part → List Part → Directory
@@ -54,10 +71,6 @@ touch_last_of p (q ∷ ps) = behind p (touch_last_of q ps)
 
 abbrev pub touch_last : Directory → Directory
 touch_last d = touch_last_of d.first d.more
-
--- a part that is set and takes up a delta
-abbrev pub taking_up : ℕ → Part → Part
-taking_up delta p = record { pair = p.pair; entries = p.entries; delta = bit_xor p.delta delta; dirty = true }
 
 -- the last part set, for the sake of its tail and of a delta that it takes up
 unfoldable pub absorb_in : ℕ → Part → List Part → Directory

@@ -24,10 +24,10 @@ use Rattle.lfs_command.specs.Parent.{parent_of}
 use Rattle.lfs_law.specs.PairWalk.{pair_at, directory_name}
 use Rattle.lfs_command.specs.ThreadEdit.{in_directory}
 use Rattle.lfs_command.specs.Verdict.{is_directory, is_root, last_length, refuse_if, walk_refusal}
-use Rattle.lfs_law.proofs.DirectoryEdits.{begins_same}
+use Rattle.lfs_law.proofs.DirectoryEdits.{begins_there}
 use Rattle.lfs_law.proofs.EntriesThere.{stands_at_parent}
 use Rattle.lfs_law.proofs.Parents.{Splits, first_passes, path_splits, test_passes}
-use Rattle.lfs_law.proofs.InDirectory.{KeepsAllParts}
+use Rattle.lfs_law.proofs.InDirectory.{KeepsAllFirst}
 use Rattle.lfs_law.proofs.Marks.{named_once}
 use Rattle.lfs_law.proofs.OnePath.{entry_found, found_name, one_directory}
 use Rattle.lfs_law.proofs.PairWalks.{walks_go_by_pairs}
@@ -41,14 +41,14 @@ each_named_once o ordered sound n =
     All-weaker (λ (d : Directory). Rise (entries d)) (λ (d : Directory). count_by (is_named n) (entries d) ≤ 1)
     (λ d rise. named_once n (entries d) ordered rise) o.directories sound.order
 
--- ---- edits that keep pairs
+-- ---- edits that keep the first pair
 
-count_in : (j k : Pair) (f : Directory → Directory) (d : Directory) (b : Bool) → KeepsAllParts f
+count_in : (j k : Pair) (f : Directory → Directory) (d : Directory) (b : Bool) → KeepsAllFirst f
     → cond {A = ℕ} (begins_at j (if b then f d else d)) 1 0 ≡ cond {A = ℕ} (begins_at j d) 1 0
-count_in j k f d true keeps = ap (λ (b : Bool). cond {A = ℕ} b 1 0) (begins_same j d (f d) (keeps d).pairs)
+count_in j k f d true keeps = ap (λ (b : Bool). cond {A = ℕ} b 1 0) (begins_there j d (f d) (keeps d).first)
 count_in j k f d false keeps = refl
 
-pub begins_kept : (j k : Pair) (f : Directory → Directory) (ds : List Directory) → KeepsAllParts f
+pub begins_kept : (j k : Pair) (f : Directory → Directory) (ds : List Directory) → KeepsAllFirst f
     → count_by (begins_at j) (in_directory k f ds) ≡ count_by (begins_at j) ds
 begins_kept j k f [] keeps = refl
 begins_kept j k f (d ∷ ds) keeps =

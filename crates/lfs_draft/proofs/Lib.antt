@@ -15,3 +15,4 @@ pub mod FreeingLemmas
 pub mod LastNames
 pub mod FrontLemmas
 pub mod SaidPaths
+pub mod DroppedParts

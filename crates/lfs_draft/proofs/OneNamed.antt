@@ -1,16 +1,17 @@
 -- The one entry of a name in the parts of a directory.
 use Rattle.std.proofs.Common.{◌≡◌, ℕ, ◌+◌, ◌<◌, ◌≤◌, suc, zero, Bool, true, false, List, [], ◌∷◌, length, map, refl, ap, sym, ◌∙◌, arith}
 use Rattle.std.proofs.Common.{cond}
-use Rattle.std.specs.Prelude.{if◌then◌else◌, count_by, find, slice_index_or, None}
-use Rattle.std.specs.List.{list_any}
+use Rattle.std.specs.Prelude.{not, ◌==◌, ◌&&◌, ◌||◌, if◌then◌else◌, count_by, find, slice_index_or, None}
+use Rattle.std.specs.List.{list_all, list_any}
+use Rattle.std.proofs.lemmas.Bool.Decides.{nat_tests}
 use Rattle.std.proofs.lemmas.List.Sums.{sum_by-append}
 use Rattle.lfs_meta.specs.Name.{Name}
 use Rattle.lfs_fs.specs.Entry.{Entry, is_named}
-use Rattle.lfs_fs.specs.Directory.{Part}
-use Rattle.lfs_command.specs.EntryEdit.{changed}
-use Rattle.lfs_command.specs.DirectoryEdit.{touch, has_name, change_in}
+use Rattle.lfs_fs.specs.Directory.{Part, Directory, entries}
+use Rattle.lfs_command.specs.EntryEdit.{changed, without}
+use Rattle.lfs_command.specs.DirectoryEdit.{touch, has_name, has_only, change_in}
 use Rattle.lfs_law.proofs.OneElement.{where_passes, where_none, none_counted, count_cases}
-use Rattle.lfs_law.proofs.DirectoryEdits.{entries_of}
+use Rattle.lfs_law.proofs.DirectoryEdits.{entries_of, only_has}
 
 -- what is there is counted, what isn't is not
 some_counted : {X : Type 0} (t : X → Bool) (xs : List X) → list_any t xs ≡ true → 1 ≤ count_by t xs
@@ -29,6 +30,64 @@ count_parts n p ps = sum_by-append (λ (x : Entry). cond {A = ℕ} (is_named n x
 pub few_have : (n : Name) (ps : List Part) → count_by (has_name n) ps ≤ count_by (is_named n) (entries_of ps)
 few_have n [] = omega arith
 few_have n (p ∷ ps) = grind (arith, count_cases (has_name n) p ps, count_parts n p ps, some_counted (is_named n) p.entries, few_have n ps)
+
+only_fewer : (n : Name) (ps : List Part) → count_by (has_only n) ps ≤ count_by (has_name n) ps
+only_fewer n [] = omega arith
+only_fewer n (p ∷ ps) = by (has_only n p) refl (only_fewer n ps)
+  where
+    by : (t : Bool) → has_only n p ≡ t → count_by (has_only n) ps ≤ count_by (has_name n) ps
+        → count_by (has_only n) (p ∷ ps) ≤ count_by (has_name n) (p ∷ ps)
+    by true is later = omega (
+      arith,
+      later,
+      count_cases (has_only n) p ps,
+      count_cases (has_name n) p ps,
+      ap (λ (t : Bool). cond {A = ℕ} t 1 0) is,
+      ap (λ (t : Bool). cond {A = ℕ} t 1 0) (only_has n p is),
+    )
+    by false is later = omega (
+      arith,
+      later,
+      count_cases (has_only n) p ps,
+      count_cases (has_name n) p ps,
+      ap (λ (t : Bool). cond {A = ℕ} t 1 0) is,
+    )
+
+some_there : {X : Type 0} (x : X) (xs : List X) → (length (x ∷ xs) == 0) ≡ false
+some_there x xs = grind (arith, nat_tests)
+
+-- all entries have a name if none is left without them
+all_left : (n : Name) (es : List Entry) → list_all (is_named n) es ≡ (length (without n es) == 0)
+all_left n [] = refl
+all_left n (e ∷ es) = by (is_named n e) (all_left n es)
+  where
+    by : (t : Bool) → list_all (is_named n) es ≡ (length (without n es) == 0)
+        → (t && list_all (is_named n) es) ≡ (length (if not t then e ∷ without n es else without n es) == 0)
+    by true later = later
+    by false later = sym (some_there e (without n es))
+
+and_false : (t : Bool) → (t && false) ≡ false
+and_false true = refl
+and_false false = refl
+
+some_all : (n : Name) (es : List Entry) → 0 < length es
+    → list_all (is_named n) es ≡ (list_any (is_named n) es && length (without n es) == 0)
+some_all n [] some = absurd (omega (arith, some))
+some_all n (e ∷ es) some = by (is_named n e) (all_left n es)
+  where
+    by : (t : Bool) → list_all (is_named n) es ≡ (length (without n es) == 0)
+        → (t && list_all (is_named n) es)
+        ≡ ((t || list_any (is_named n) es) && length (if not t then e ∷ without n es else without n es) == 0)
+    by true later = later
+    by false later = sym (ap (λ (t : Bool). list_any (is_named n) es && t) (some_there e (without n es)) ∙ and_false (list_any (is_named n) es))
+
+-- a part that has an entry, and none of another name, has nothing but that name
+pub some_only : (n : Name) (p : Part) → 0 < length p.entries → list_all (is_named n) p.entries ≡ has_only n p
+some_only n p some = some_all n p.entries some
+
+-- one later part at most has nothing but a name
+pub only_once : (n : Name) (d : Directory) → count_by (is_named n) (entries d) ≤ 1 → count_by (has_only n) d.more ≤ 1
+only_once n d once = omega (arith, once, only_fewer n d.more, few_have n d.more, count_parts n d.first d.more)
 
 pub few_in : (n : Name) (ps : List Part) (i : ℕ) (d : Part) → i < length ps
     → count_by (is_named n) (slice_index_or ps i d).entries ≤ count_by (is_named n) (entries_of ps)

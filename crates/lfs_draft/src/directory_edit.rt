@@ -1,7 +1,7 @@
 //! Edits of a directory: which of its parts is set, and to what.
 
 ghost use Rattle.std.specs.Prelude.{◌≡◌, ◌≤◌, ◌-◌, ◌<◌, ◌⊎◌, true, false, List, ◌∷◌, count_by, flat_map, length, map, MatchBool, OnOk, OnErr};
-ghost use Rattle.std.specs.List.{position};
+ghost use Rattle.std.specs.List.{list_all, position};
 ghost use Rattle.std.specs.Option.{unwrap_or};
 ghost use Rattle.lfs_fs.specs.Directory.{Part, entries, parts as parts_of};
 ghost use Rattle.lfs_fs.specs.Entry.{is_named};
@@ -9,7 +9,7 @@ ghost use Rattle.lfs_fs.specs.Sound.{Rise};
 ghost use Rattle.lfs_fs.specs.State.{delta_of};
 ghost use Rattle.lfs_draft.specs.EntryChange.{ChangeFits, entry_change};
 ghost use Rattle.lfs_command.specs.EntryEdit.{changed, place, without};
-ghost use Rattle.lfs_command.specs.DirectoryEdit.{absorb, absorb_in, change_in, has_greater, has_name, link_in, link_parts, taking_up, touch, touch_last, unlink_in};
+ghost use Rattle.lfs_command.specs.DirectoryEdit.{absorb, absorb_in, change_in, drop_later, has_greater, has_name, has_only, link_in, link_parts, taking_up, touch, touch_last, unlink_in};
 
 use crate::entry_change::EntryChange;
 use crate::entry_edit::{change_named, place, take_out};
@@ -111,6 +111,43 @@ pub(crate) fn link_in(
     Ok(())
 }
 
+/// Whether all entries of a part have a name.
+fn all_named(part: &OutlinePart, name: &[u8]) -> bool
+    ensures { result ≡ list_all (is_named name.now) part.now.entries }
+{
+    part.entries.iter().all(|entry| entry.is_named(name))
+}
+
+/// Whether a part has an entry of a name, and nothing else.
+pub(crate) fn has_only(part: &OutlinePart, name: &[u8]) -> bool
+    ensures { result ≡ has_only name.now part.now }
+{
+    !part.entries.is_empty() && all_named(part, name)
+}
+
+/// The place of the first part that has an entry of a name, and nothing else.
+fn first_with_only(parts: &[OutlinePart], name: &[u8]) -> Option<usize>
+    ensures { result ≡ position (has_only name.now) parts.now }
+{
+    parts.iter().position(|part| has_only(part, name))
+}
+
+/// Takes the part that has only the entry of a name out of those after a first one. The part before it is set and takes up its delta.
+fn drop_emptied(first: &mut OutlinePart, more: &mut Vec<OutlinePart>, name: &[u8])
+    requires { count_by (has_only name.now) more.old.items ≤ 1 }
+    ensures { record { first = first.new; more = more.new.items } ≡ drop_later (has_only name.now) first.old more.old.items }
+{
+    let Some(at) = first_with_only(more, name) else {
+        return;
+    };
+    let gone = more.remove(at);
+    if at > 0 {
+        absorb_into(&mut more[at - 1], &gone.delta);
+    } else {
+        absorb_into(first, &gone.delta);
+    }
+}
+
 /// Takes the entries of a name out of parts; each that had one is set.
 fn take_out_of_all(parts: &mut Vec<OutlinePart>, name: &[u8])
     ensures { parts.new.items ≡ map (λ p. touch (has_name name.now p) (without name.now) p) parts.old.items }
@@ -120,12 +157,25 @@ fn take_out_of_all(parts: &mut Vec<OutlinePart>, name: &[u8])
     }
 }
 
-/// Takes the entries of a name out of a directory; each part that had one is set.
+/// Takes the entry of a name out of a first part and those after it. A later part that has no other entry goes, another part that had it
+/// is set.
+fn unlink_parts(first: &mut OutlinePart, more: &mut Vec<OutlinePart>, name: &[u8])
+    requires { count_by (has_only name.now) more.old.items ≤ 1 }
+    ensures { record { first = first.new; more = more.new.items } ≡ unlink_in name.now (record { first = first.old; more = more.old.items }) }
+{
+    drop_emptied(first, more, name);
+    take_out_of(first, name);
+    take_out_of_all(more, name);
+}
+
+/// Takes the entry of a name out of a directory. A later part that has no other entry leaves the directory, and the part before it takes
+/// up its delta; another part that had the entry is set.
 pub(crate) fn unlink_in(directory: &mut OutlineDirectory, name: &[u8])
+    requires { count_by (is_named name.now) (entries directory.old) ≤ 1 }
     ensures { directory.new ≡ unlink_in name.now directory.old }
 {
-    take_out_of(&mut directory.parts.first, name);
-    take_out_of_all(&mut directory.parts.more, name);
+    let parts = &mut *directory.parts;
+    unlink_parts(&mut parts.first, &mut parts.more, name);
 }
 
 /// Changes the entry of a name of a part, which is set. Want of memory changes nothing.

@@ -1,18 +1,22 @@
 //! Which blocks a command gives back.
 
-ghost use Rattle.std.specs.Prelude.{◌≡◌, ◌+◌, ℕ, None, map, sum_by, IfOk, OnOk};
+ghost use Rattle.std.specs.Prelude.{◌≡◌, ◌+◌, ℕ, None, [], ◌∷◌, if◌then◌else◌, map, sum_by, IfOk, OnOk};
+ghost use Rattle.std.specs.List.{filter};
 ghost use Rattle.std.specs.Option.{option_map, unwrap_or};
 ghost use Rattle.lfs_fs.specs.Entry.{target};
 ghost use Rattle.lfs_fs.specs.OutlineHeld.{outline_body_held};
 ghost use Rattle.lfs_fs.specs.Tree.{entry_at};
-ghost use Rattle.lfs_fs.specs.Uses.{body_uses, directory_uses, entry_uses, part_uses, times};
+ghost use Rattle.lfs_fs.specs.Uses.{body_uses, directory_uses, entry_uses, pair_uses, part_uses, times};
 ghost use Rattle.lfs_command.specs.AskedFor.{named_command};
-ghost use Rattle.lfs_command.specs.Freed.{content_uses, folder_uses, freed_uses, target_uses};
+ghost use Rattle.lfs_command.specs.Command.{Rm};
+ghost use Rattle.lfs_command.specs.DirectoryEdit.{has_only};
+ghost use Rattle.lfs_command.specs.Freed.{content_uses, emptied_among, emptied_uses, folder_uses, freed_uses, target_uses};
 ghost use Rattle.lfs_command.specs.Verdict.{first_refusal};
 ghost use Rattle.lfs_draft.specs.Editable.{IsEditable, NamesRise};
 ghost use Rattle.lfs_draft.specs.Freeing.{ListsMore};
 ghost use Rattle.lfs_law.specs.ParentChecks.{parent_checks};
 
+use crate::directory_edit::has_only;
 use crate::editing::parent;
 use crate::last_names::entry_in;
 use lfs_command::{Command, Named};
@@ -36,6 +40,15 @@ fn list_entry(blocks: &mut Vec<u32>, entry: &OutlineEntry) -> Result<(), AllocEr
     list_body(blocks, &entry.body)
 }
 
+/// Lists the blocks of a pair.
+fn list_pair(blocks: &mut Vec<u32>, pair: (u32, u32)) -> Result<(), AllocError>
+    ensures { OnOk result (ListsMore blocks.old.items blocks.new.items (λ b. times b (pair.0 ∷ pair.1 ∷ []))) }
+{
+    blocks.push(pair.0)?;
+    blocks.push(pair.1)?;
+    Ok(())
+}
+
 /// Lists the blocks of the chains of entries.
 fn list_entries(blocks: &mut Vec<u32>, entries: &[OutlineEntry]) -> Result<(), AllocError>
     ensures { OnOk result (ListsMore blocks.old.items blocks.new.items (λ b. sum_by (entry_uses b) entries.now)) }
@@ -50,8 +63,7 @@ fn list_entries(blocks: &mut Vec<u32>, entries: &[OutlineEntry]) -> Result<(), A
 fn list_part(blocks: &mut Vec<u32>, part: &OutlinePart) -> Result<(), AllocError>
     ensures { OnOk result (ListsMore blocks.old.items blocks.new.items (λ b. part_uses b part.now)) }
 {
-    blocks.push(part.pair.0)?;
-    blocks.push(part.pair.1)?;
+    list_pair(blocks, part.pair)?;
     list_entries(blocks, &part.entries)?;
     Ok(())
 }
@@ -130,6 +142,64 @@ fn list_removed(blocks: &mut Vec<u32>, outline: &Outline, path: &[&[u8]]) -> Res
     Ok(())
 }
 
+/// Lists the blocks of a part that has an entry of a name, and nothing else.
+fn list_if_emptied(blocks: &mut Vec<u32>, part: &OutlinePart, name: &[u8]) -> Result<(), AllocError>
+    ensures { OnOk result (ListsMore blocks.old.items blocks.new.items (λ b. if has_only name.now part.now then pair_uses b part.now else 0)) }
+{
+    if has_only(part, name) {
+        list_pair(blocks, part.pair)?;
+    }
+    Ok(())
+}
+
+/// Lists the blocks of the parts that have an entry of a name, and nothing else.
+fn list_emptied(blocks: &mut Vec<u32>, parts: &[OutlinePart], name: &[u8]) -> Result<(), AllocError>
+    ensures { OnOk result (ListsMore blocks.old.items blocks.new.items (λ b. sum_by (pair_uses b) (filter (has_only name.now) parts.now))) }
+{
+    'each: for part in parts {
+        list_if_emptied(blocks, part, name)?;
+    }
+    Ok(())
+}
+
+/// Lists the blocks of the parts that leave the directory of a pair when the entry of a name is taken out of it.
+fn list_emptied_among(
+    blocks: &mut Vec<u32>,
+    outline: &Outline,
+    pair: (u32, u32),
+    name: &[u8],
+) -> Result<(), AllocError>
+    ensures { OnOk result (ListsMore blocks.old.items blocks.new.items (λ b. sum_by (pair_uses b) (emptied_among outline.now.directories pair name.now))) }
+{
+    let Some(directory) = directory_at(&outline.directories, pair) else {
+        return Ok(());
+    };
+    list_emptied(blocks, &directory.parts.more, name)?;
+    Ok(())
+}
+
+/// Lists the blocks of the parts that leave their directory with the entry at a path.
+fn list_left(blocks: &mut Vec<u32>, outline: &Outline, path: &[&[u8]]) -> Result<(), AllocError>
+    requires unrefused { first_refusal (parent_checks outline.now (map (λ n. n.now) path.now)) ≡ None }
+    requires rise { NamesRise outline.now.directories }
+    ensures { OnOk result (ListsMore blocks.old.items blocks.new.items (λ b. emptied_uses outline.now (map (λ n. n.now) path.now) b)) }
+{
+    let parent = parent(outline, path);
+    list_emptied_among(blocks, outline, parent.pair, parent.name)?;
+    Ok(())
+}
+
+/// Lists the blocks that `rm` of a path gives back.
+fn list_rm(blocks: &mut Vec<u32>, outline: &Outline, path: &[&[u8]]) -> Result<(), AllocError>
+    requires unrefused { first_refusal (parent_checks outline.now (map (λ n. n.now) path.now)) ≡ None }
+    requires rise { NamesRise outline.now.directories }
+    ensures { OnOk result (ListsMore blocks.old.items blocks.new.items (λ b. freed_uses outline.now (Rm (map (λ n. n.now) path.now)) b)) }
+{
+    list_removed(blocks, outline, path)?;
+    list_left(blocks, outline, path)?;
+    Ok(())
+}
+
 /// Lists the blocks that a command gives back.
 fn list_freed(
     blocks: &mut Vec<u32>,
@@ -141,12 +211,14 @@ fn list_freed(
 {
     match command {
         Command::Put { path, .. } => list_replaced(blocks, outline, path),
-        Command::Rm { path } => list_removed(blocks, outline, path),
+        Command::Rm { path } => list_rm(blocks, outline, path),
+        Command::Mv { from, .. } => list_left(blocks, outline, from),
         _ => Ok(()),
     }
 }
 
-/// The blocks that a command gives back: those of the contents that it removes or replaces, and of a directory that it removes.
+/// The blocks that a command gives back: those of the contents that it removes or replaces, of a directory that it removes, and of the
+/// part that it empties.
 pub fn freed_blocks(
     alloc: Global,
     outline: &Outline,

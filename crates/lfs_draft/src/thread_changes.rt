@@ -112,6 +112,7 @@ pub(crate) fn remove(
     leads_to: Option<(u32, u32)>,
 )
     requires once { BeginOnce directories.old.items }
+    requires named { NamedOnce directories.old.items }
     ensures { directories.new.items ≡ drop_target leads_to (unlink parent.entry.pair parent.entry.name.now directories.old.items) }
 {
     unlink(directories, parent.pair, parent.name);
@@ -146,6 +147,7 @@ pub(crate) fn move_entry(
     to: Parent<'_>,
 ) -> Result<(), AllocError>
     requires once { BeginOnce directories.old.items }
+    requires named { NamedOnce directories.old.items }
     requires rise { NamesRise directories.old.items }
     requires there { (e : Entry) × (entry_in directories.old.items from.pair from.name.now ≡ Some e) }
     requires name { length to.name.now < 1023 }

@@ -40,9 +40,10 @@ pub(crate) fn link(
     Ok(())
 }
 
-/// Takes the entries of a name out of the directory of a pair.
+/// Takes the entry of a name out of the directory of a pair.
 pub(crate) fn unlink(directories: &mut Vec<OutlineDirectory>, pair: (u32, u32), name: &[u8])
-    requires { count_by (begins_at pair) directories.old.items ≤ 1 }
+    requires one { count_by (begins_at pair) directories.old.items ≤ 1 }
+    requires once { All (λ d. count_by (is_named name.now) (entries d) ≤ 1) directories.old.items }
     ensures { directories.new.items ≡ unlink pair name.now directories.old.items }
 {
     if let Some(at) = directory_of(directories, pair) {

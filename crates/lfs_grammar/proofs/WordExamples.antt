@@ -172,9 +172,9 @@ packing_says : (text_at (codes "least") packing ≡ Some (Some (codes "true")))
 unfolding clap_on_literals
 packing_says = (refl, refl, refl, refl, refl, refl, refl)
 
--- lfsed put --block auto --older --from b.txt a.img /x
+-- lfsed put --block auto --parents --from b.txt a.img /x
 abbrev putting : List Text
-putting = codes "lfsed" ∷ codes "put" ∷ codes "--block" ∷ codes "auto" ∷ codes "--older" ∷ codes "--from" ∷ codes "b.txt" ∷ codes "a.img"
+putting = codes "lfsed" ∷ codes "put" ∷ codes "--block" ∷ codes "auto" ∷ codes "--parents" ∷ codes "--from" ∷ codes "b.txt" ∷ codes "a.img"
     ∷ codes "/x" ∷ []
 
 putting_is_taken : IsTaken putting
@@ -183,7 +183,7 @@ putting_is_taken = refl
 
 putting_says : (text_at (codes "block") putting ≡ Some (Some (codes "auto")))
     × (text_at (codes "contents") putting ≡ Some (Some (codes "b.txt")))
-    × (text_at (codes "older") putting ≡ Some (Some (codes "true")))
+    × (text_at (codes "parents") putting ≡ Some (Some (codes "true")))
 unfolding clap_on_literals
 putting_says = (refl, refl, refl)
 

@@ -147,7 +147,7 @@ offset = option (codes "offset")
 abbrev pub from_block : Rule
 from_block = record (option (codes "from-block")) { defaults = codes "auto" ∷ [] }
 
--- the state before commits of a later disk version is gone on with
+-- the state before commits of a later disk version is taken
 abbrev pub older : Rule
 older = flag (codes "older")
 
@@ -257,7 +257,8 @@ abbrev pub making_command : Text → List Rule → Shape
 making_command name rules =
     (command name (new_block ∷ word (codes "image") ∷ rules ++ name_max ∷ file_max ∷ attr_max ∷ is_new ∷ [])).top
 
--- a command that reads one: it takes the block size, the image's file name, these words, and whether older states are gone on with
+-- a command that reads one, or moves along its history: it takes the block size, the image's file name, these words, and whether the state
+-- before commits of a later disk version is taken
 abbrev pub reading : Text → List Rule → Shape
 reading name rules = (command name (block ∷ word (codes "image") ∷ rules ++ older ∷ [])).top
 
@@ -274,9 +275,10 @@ repack =
 abbrev pub asking : Text → List Rule → Shape
 asking name rules = reading name (rules ++ device ∷ offset ∷ [])
 
--- a command that changes the image: behind it the past may be cut
+-- a command that changes the image: it takes the block size, the image's file name, these words, and how much of the past it keeps; no older
+-- state is taken for the image, since what it writes would drop what a device wrote
 abbrev pub changing : Text → List Rule → Shape
-changing name rules = reading name (rules ++ keep ∷ [])
+changing name rules = (command name (block ∷ word (codes "image") ∷ rules ++ keep ∷ [])).top
 
 -- it has one of these names
 abbrev pub is_change : Text → Bool

@@ -221,7 +221,6 @@ static COMMANDS: [CommandRow; 25] = [
             Argument::Path,
             Argument::Parents,
             Argument::Keep,
-            Argument::Older,
         ],
     },
     CommandRow {
@@ -235,7 +234,6 @@ static COMMANDS: [CommandRow; 25] = [
             Argument::Contents,
             Argument::Parents,
             Argument::Keep,
-            Argument::Older,
         ],
     },
     CommandRow {
@@ -248,7 +246,6 @@ static COMMANDS: [CommandRow; 25] = [
             Argument::Path,
             Argument::Recursive,
             Argument::Keep,
-            Argument::Older,
         ],
     },
     CommandRow {
@@ -261,7 +258,6 @@ static COMMANDS: [CommandRow; 25] = [
             Argument::From,
             Argument::To,
             Argument::Keep,
-            Argument::Older,
         ],
     },
     CommandRow {
@@ -275,7 +271,6 @@ static COMMANDS: [CommandRow; 25] = [
             Argument::Kind,
             Argument::Value,
             Argument::Keep,
-            Argument::Older,
         ],
     },
     CommandRow {
@@ -288,7 +283,6 @@ static COMMANDS: [CommandRow; 25] = [
             Argument::Path,
             Argument::Kind,
             Argument::Keep,
-            Argument::Older,
         ],
     },
     CommandRow {
@@ -301,7 +295,6 @@ static COMMANDS: [CommandRow; 25] = [
             Argument::NewCount,
             Argument::Size,
             Argument::Keep,
-            Argument::Older,
         ],
     },
     CommandRow {
@@ -314,7 +307,6 @@ static COMMANDS: [CommandRow; 25] = [
             Argument::SyncedDir,
             Argument::SyncedPath,
             Argument::Keep,
-            Argument::Older,
         ],
     },
     CommandRow {
@@ -355,7 +347,6 @@ static COMMANDS: [CommandRow; 25] = [
             Argument::Script,
             Argument::One,
             Argument::Keep,
-            Argument::Older,
         ],
     },
     CommandRow {

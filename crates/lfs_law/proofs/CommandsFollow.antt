@@ -25,7 +25,7 @@ use Rattle.lfs_command.specs.Parent.{parent_of}
 use Rattle.lfs_command.specs.Edited.{edited, put_file, remove_entry, move_entry, set_attributes}
 use Rattle.lfs_command.specs.Verdict.{refuse_if, walk_refusal, is_directory, is_root, last_length, is_bare, lies_below}
 use Rattle.lfs_command.specs.Accepted.{IsAccepted}
-use Rattle.lfs_command.specs.Freed.{content_uses, freed_uses}
+use Rattle.lfs_command.specs.Freed.{content_uses, emptied_uses, freed_uses}
 use Rattle.lfs_law.specs.Laws.{CommandsFollow}
 use Rattle.lfs_law.proofs.AttributeLemmas.{set_good, remove_good}
 use Rattle.lfs_law.proofs.GrowFollows.{grow_follows}
@@ -36,7 +36,7 @@ use Rattle.lfs_law.proofs.Placed.{IsPlaced, is_placed}
 use Rattle.lfs_law.proofs.SetFollows.{KeepsGood, root_set_follows, entry_set_follows}
 use Rattle.lfs_law.proofs.PutFollows.{IsNewBody, new_file_follows, old_file_follows}
 use Rattle.lfs_law.proofs.MkdirFollows.{mkdir_follows}
-use Rattle.lfs_law.proofs.RmFollows.{target_uses_of, rm_follows}
+use Rattle.lfs_law.proofs.RmFollows.{target_uses_of, gone_of, rm_follows}
 use Rattle.lfs_law.proofs.MvFollows.{Moves, mv_follows}
 
 -- ---- what is there
@@ -196,11 +196,11 @@ removed_follows v p s ordered ok =
     let empty : is_bare v (option_and_then target (entry_at v p)) ≡ true =
     not_false (is_bare v (option_and_then target (entry_at v p))) (test_passes
     (not (is_bare v (option_and_then target (entry_at v p)))) NotEmpty bare.0) in
-    puts_carry v (Rm p) s p None (λ b. entry_uses b e.0 + target_uses_of v (target e.0) b) (λ b. 0) refl (λ q. refl)
-    (λ b. ap (λ (o : Option Entry). unwrap_or (option_map (entry_uses b) o) 0 + target_uses_of v (option_and_then target o) b) e.1)
+    puts_carry v (Rm p) s p None (gone_of v p e.0) (λ b. 0) refl (λ q. refl)
+    (λ b. ap (λ (o : Option Entry). unwrap_or (option_map (entry_uses b) o) 0 + target_uses_of v (option_and_then target o) b
+    + emptied_uses v p b) e.1)
     (λ b. refl)
-    (subst (λ (o : Option Entry). Puts v (remove_entry v (parent_of v p) o) p None (λ b. entry_uses b e.0 + target_uses_of v (target e.0) b)
-    (λ b. 0)) (sym e.1)
+    (subst (λ (o : Option Entry). Puts v (remove_entry v (parent_of v p) o) p None (gone_of v p e.0) (λ b. 0)) (sym e.1)
     (rm_follows v p e.0 ordered ok.sound at e.1 (ap (λ (o : Option Entry). is_bare v (option_and_then target o)) (sym e.1) ∙ empty)))
 
 -- ---- what is moved

@@ -23,7 +23,7 @@ use Rattle.lfs_fs.specs.Uses.{uses}
 use Rattle.lfs_fs.specs.Sound.{IsSound, StartsAtRoot}
 use Rattle.lfs_command.specs.EntryEdit.{place, without, changed}
 use Rattle.lfs_command.specs.DirectoryEdit.{touch, has_name, unlink_in, change_in, behind, link_parts, link_in, touch_last_of, touch_last}
-use Rattle.lfs_command.specs.DirectoryEdit.{absorb_in, absorb, taking_up}
+use Rattle.lfs_command.specs.DirectoryEdit.{absorb_in, absorb, taking_up, drop_later, has_only}
 use Rattle.lfs_command.specs.ThreadEdit.{in_directory, link, unlink, change, add_after, take_out, drop_directory, touch_first}
 use Rattle.lfs_command.specs.Command.{Command, Mkdir, Put, Rm, Mv, SetAttr, RmAttr, Grow}
 use Rattle.lfs_command.specs.Supplies.{Supplies, new_body}
@@ -36,13 +36,13 @@ use Rattle.lfs_law.specs.CommandsSet.{CommandsSetAPart}
 use Rattle.lfs_command.specs.declared.refusal.Refusal.TheVariants.{IsRoot, NotFound, IntoItself}
 use Rattle.lfs_command.specs.Verdict.{refuse_if, walk_refusal, is_root, lies_below}
 use Rattle.lfs_law.proofs.CommandsFollow.{is_there}
-use Rattle.lfs_law.proofs.DirectoryEdits.{entries_of, pairs, keeps_link, keeps_unlink, keeps_change}
+use Rattle.lfs_law.proofs.DirectoryEdits.{entries_of, pairs, first_link, pairs_unlink, keeps_unlink, first_change}
 use Rattle.lfs_law.proofs.EdgeEdits.{sound_is_good}
 use Rattle.lfs_law.proofs.EntriesThere.{stands_at_parent}
 use Rattle.lfs_law.proofs.FewParts.{parent_once, count_thread}
 use Rattle.lfs_law.proofs.Found.{found_le, found_passes}
 use Rattle.lfs_law.proofs.Parents.{first_passes, test_passes}
-use Rattle.lfs_law.proofs.InDirectory.{KeepsAllParts, find_here}
+use Rattle.lfs_law.proofs.InDirectory.{KeepsAllFirst, find_here}
 use Rattle.lfs_law.proofs.LinksAdded.{first_used}
 use Rattle.lfs_law.proofs.OnePath.{entry_found}
 use Rattle.lfs_law.proofs.OneElement.{found_one, found_has, count_cases}
@@ -138,9 +138,81 @@ each_sets old n f (p ∷ ps) olds there = elim (named_or_none n p.entries) [
       omega (arith, later, cons_count old (touch (has_name n p) f p) (map (λ q. touch (has_name n q) f q) ps)))
 ]
 
+-- ---- where later parts are taken out
+
+old_dropped : (old : Pair → Bool) (goes : Part → Bool) (p : Part) (ps : List Part) → AreOld old (pairs (p ∷ ps))
+    → AreOld old (pairs (parts (drop_later goes p ps)))
+unfolding drop_later
+old_dropped old goes p [] olds = olds
+old_dropped old goes p (q ∷ ps) olds = go (goes q) (old_dropped old goes (taking_up q.delta p) ps gone) (old_dropped old goes q ps rest)
+  where
+    first : old p.pair ≡ true
+    first = All-head (λ x. old x ≡ true) p.pair (pairs (q ∷ ps)) olds
+
+    rest : AreOld old (pairs (q ∷ ps))
+    rest = All-tail (λ x. old x ≡ true) p.pair (pairs (q ∷ ps)) olds
+
+    gone : AreOld old (pairs (taking_up q.delta p ∷ ps))
+    gone = All-cons (λ x. old x ≡ true) p.pair (pairs ps) first (All-tail (λ x. old x ≡ true) q.pair (pairs ps) rest)
+
+    go : (b : Bool) → AreOld old (pairs (parts (drop_later goes (taking_up q.delta p) ps)))
+        → AreOld old (pairs (parts (drop_later goes q ps)))
+        → AreOld old (pairs (parts (if b then drop_later goes (taking_up q.delta p) ps else behind p (drop_later goes q ps))))
+    go true without_it later = without_it
+    go false without_it later = All-cons (λ x. old x ≡ true) p.pair (pairs (parts (drop_later goes q ps))) first later
+
+old_unlinked : (old : Pair → Bool) (n : Name) (d : Directory) → AreOld old (pairs (parts d)) → AreOld old (pairs (parts (unlink_in n d)))
+old_unlinked old n d olds = subst (AreOld old) (sym (pairs_unlink n d)) (old_dropped old (has_only n) d.first d.more olds)
+
+-- a part without the name, or with its entries less it
+abbrev left : Name → Part → Part
+left n p = touch (has_name n p) (without n) p
+
+-- the part that has the name is set, or the one before it if it goes
+drop_sets : (old : Pair → Bool) (n : Name) (p : Part) (ps : List Part) → AreOld old (pairs (p ∷ ps))
+    → (p.dirty ≡ true) ⊎ (1 ≤ count_by (is_named n) (entries_of (p ∷ ps)))
+    → 1 ≤ count old (map (left n) (parts (drop_later (has_only n) p ps)))
+unfolding drop_later
+drop_sets old n p [] olds some = elim some [
+  | inl set ↦ first_set old (left n p) [] (ap (λ (t : Bool). t || has_name n p) set) (All-head (λ q. old q ≡ true) p.pair [] olds)
+  | inr there ↦ each_sets old n (without n) (p ∷ []) olds there
+]
+drop_sets old n p (q ∷ ps) olds some = go (has_only n q) (drop_sets old n (taking_up q.delta p) ps gone (inl refl)) (drop_sets old n q ps rest)
+  where
+    first : old p.pair ≡ true
+    first = All-head (λ x. old x ≡ true) p.pair (pairs (q ∷ ps)) olds
+
+    rest : AreOld old (pairs (q ∷ ps))
+    rest = All-tail (λ x. old x ≡ true) p.pair (pairs (q ∷ ps)) olds
+
+    gone : AreOld old (pairs (taking_up q.delta p ∷ ps))
+    gone = All-cons (λ x. old x ≡ true) p.pair (pairs ps) first (All-tail (λ x. old x ≡ true) q.pair (pairs ps) rest)
+
+    go : (b : Bool) → 1 ≤ count old (map (left n) (parts (drop_later (has_only n) (taking_up q.delta p) ps)))
+        → ((q.dirty ≡ true) ⊎ (1 ≤ count_by (is_named n) (entries_of (q ∷ ps)))
+        → 1 ≤ count old (map (left n) (parts (drop_later (has_only n) q ps))))
+        → 1 ≤ count old (map (left n) (parts (if b then drop_later (has_only n) (taking_up q.delta p) ps
+        else behind p (drop_later (has_only n) q ps))))
+    go true without_it later = without_it
+    go false without_it later = elim some [
+      | inl set ↦ first_set old (left n p) (map (left n) (parts (drop_later (has_only n) q ps)))
+          (ap (λ (t : Bool). t || has_name n p) set) first
+      | inr there ↦ elim (named_or_none n p.entries) [
+        | inl is ↦ first_set old (left n p) (map (left n) (parts (drop_later (has_only n) q ps)))
+            (ap (λ (t : Bool). p.dirty || t) is ∙ or-true p.dirty) first
+        | inr none ↦
+            (let split = sum_by-append (λ (e : Entry). cond {A = ℕ} (is_named n e) 1 0) p.entries (entries_of (q ∷ ps)) in
+            omega (
+              arith,
+              later (inr (omega (arith, there, none, split))),
+              cons_count old (left n p) (map (left n) (parts (drop_later (has_only n) q ps))),
+            ))
+      ]
+    ]
+
 -- ---- in a volume
 
-in_sets : (old : Pair → Bool) (k : Pair) (f : Directory → Directory) (ds : List Directory) (d : Directory) → KeepsAllParts f
+in_sets : (old : Pair → Bool) (k : Pair) (f : Directory → Directory) (ds : List Directory) (d : Directory) → KeepsAllFirst f
     → find (begins_at k) ds ≡ Some d → 1 ≤ count old (parts (f d))
     → 1 ≤ count old (thread (in_directory k f ds))
 in_sets old k f ds d keeps found one =
@@ -149,7 +221,8 @@ in_sets old k f ds d keeps found one =
     (find_here k f ds keeps ∙ ap (option_map f) found) in
     omega (arith, one, le, count_thread (set_old old) (in_directory k f ds))
 
-old_in : (old : Pair → Bool) (k : Pair) (f : Directory → Directory) (ds : List Directory) → KeepsAllParts f → HaveOld old ds
+old_in : (old : Pair → Bool) (k : Pair) (f : Directory → Directory) (ds : List Directory)
+    → ((d : Directory) → AreOld old (pairs (parts d)) → AreOld old (pairs (parts (f d)))) → HaveOld old ds
     → HaveOld old (in_directory k f ds)
 old_in old k f [] keeps olds = olds
 old_in old k f (d ∷ ds) keeps olds =
@@ -158,7 +231,7 @@ old_in old k f (d ∷ ds) keeps olds =
     (old_in old k f ds keeps (All-tail (λ (x : Directory). AreOld old (pairs (parts x))) d ds olds))
   where
     by : (t : Bool) → AreOld old (pairs (parts d)) → AreOld old (pairs (parts (if t then f d else d)))
-    by true here = subst (AreOld old) (sym (keeps d).pairs) here
+    by true here = keeps d here
     by false here = here
 
 old_found : (old : Pair → Bool) (k : Pair) (ds : List Directory) (d : Directory) → HaveOld old ds → find (begins_at k) ds ≡ Some d
@@ -169,7 +242,7 @@ link_one : (old : Pair → Bool) (k : Pair) (e : Entry) (ds : List Directory) �
     → 1 ≤ count old (thread (link k e ds))
 link_one old k e ds olds once =
     let found = found_one (begins_at k) ds once in
-    in_sets old k (link_in e) ds found.0 (keeps_link e) found.1 (link_sets old e found.0.first found.0.more
+    in_sets old k (link_in e) ds found.0 (first_link e) found.1 (link_sets old e found.0.first found.0.more
     (old_found old k ds found.0 olds found.1))
 
 counted : (n : Name) (es : List Entry) (e : Entry) → find (is_named n) es ≡ Some e → 1 ≤ count_by (is_named n) es
@@ -181,7 +254,7 @@ change_one : (old : Pair → Bool) (k : Pair) (n : Name) (f : Entry → Entry) (
     → entry_in ds k n ≡ Some e → 1 ≤ count old (thread (change k n f ds))
 change_one old k n f ds e olds there =
     let found = entry_found ds k n e there in
-    in_sets old k (change_in n f) ds found.0 (keeps_change n f) found.1
+    in_sets old k (change_in n f) ds found.0 (first_change n f) found.1
     (each_sets old n (changed n f) (parts found.0) (old_found old k ds found.0 olds found.1) (counted n (entries found.0) e found.2))
 
 unlink_one : (old : Pair → Bool) (k : Pair) (n : Name) (ds : List Directory) (e : Entry) → HaveOld old ds → entry_in ds k n ≡ Some e
@@ -189,7 +262,7 @@ unlink_one : (old : Pair → Bool) (k : Pair) (n : Name) (ds : List Directory) (
 unlink_one old k n ds e olds there =
     let found = entry_found ds k n e there in
     in_sets old k (unlink_in n) ds found.0 (keeps_unlink n) found.1
-    (each_sets old n (without n) (parts found.0) (old_found old k ds found.0 olds found.1) (counted n (entries found.0) e found.2))
+    (drop_sets old n found.0.first found.0.more (old_found old k ds found.0 olds found.1) (inr (counted n (entries found.0) e found.2)))
 
 abbrev count_of : (Pair → Bool) → Directory → ℕ
 count_of old d = count old (parts d)
@@ -316,7 +389,7 @@ entry_removed : (v : Volume) (p : Path) (h : Pair × Name) → parent_of v p ≡
     → sets v (remove_entry v (Some h) (Some e))
 entry_removed v p h is e there =
     drop_target_keeps (old_to v) (target e) (unlink h.0 h.1 v.directories)
-    (old_in (old_to v) h.0 (unlink_in h.1) v.directories (keeps_unlink h.1) (have_old v))
+    (old_in (old_to v) h.0 (unlink_in h.1) v.directories (old_unlinked (old_to v) h.1) (have_old v))
     (unlink_one (old_to v) h.0 h.1 v.directories e (have_old v) (sym (stands_at_parent v p h.0 h.1 is) ∙ there))
 
 entry_moved : (v : Volume) (p q : Path) → NamesAreOrdered → IsSound v → (h g : Pair × Name) → parent_of v p ≡ Some h → parent_of v q ≡ Some g
@@ -326,7 +399,7 @@ entry_moved v p q ordered sound h g is goes e there =
     let ds : List Directory = unlink h.0 h.1 v.directories in
     let effect = unlink_effect v.limits h.0 h.1 e v.directories ordered (sound_is_good v sound) (parent_once v p h sound is)
     (sym (stands_at_parent v p h.0 h.1 is) ∙ there) in
-    link_one (old_to v) g.0 (renamed g.1 e) ds (old_in (old_to v) h.0 (unlink_in h.1) v.directories (keeps_unlink h.1) (have_old v))
+    link_one (old_to v) g.0 (renamed g.1 e) ds (old_in (old_to v) h.0 (unlink_in h.1) v.directories (old_unlinked (old_to v) h.1) (have_old v))
     (omega (arith, parent_once v q g sound goes, effect.directories g.0))
 
 some_set : NamesAreOrdered → (v : Volume) (c : Command) (s : Supplies) → IsAccepted v c s → sets v (edited v c s)

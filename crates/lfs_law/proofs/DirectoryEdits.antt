@@ -1,9 +1,10 @@
 -- Edits of a directory: its entries, its pairs and its delta.
-use Rattle.std.proofs.Common.{◌≡◌, ℕ, Bool, true, false, List, [], ◌∷◌, ◌++◌, refl, ap, sym, ◌∙◌, arith, map, append-nil}
-use Rattle.std.specs.Prelude.{not, if◌then◌else◌, sum_by, flat_map, bit_xor}
-use Rattle.std.specs.List.{list_any}
+use Rattle.std.proofs.Common.{◌≡◌, ℕ, ◌+◌, Bool, true, false, List, [], ◌∷◌, ◌++◌, refl, ap, sym, ◌∙◌, arith, map, append-nil, length}
+use Rattle.std.specs.Prelude.{not, ◌==◌, ◌&&◌, if◌then◌else◌, sum_by, flat_map, bit_xor}
+use Rattle.std.specs.List.{list_any, filter}
 use Rattle.std.specs.Int.Bits.{xor_assoc, xor_zero_r}
-use Rattle.std.proofs.lemmas.List.{map-append}
+use Rattle.std.proofs.lemmas.Bool.Decides.{nat_tests}
+use Rattle.std.proofs.lemmas.List.{map-append, nil_from_length}
 use Rattle.std.proofs.lemmas.List.Elements.{filter-append}
 use Rattle.std.proofs.lemmas.List.Sums.{sum_by-cons}
 use Rattle.lfs_meta.specs.Name.{Name}
@@ -16,7 +17,7 @@ use Rattle.lfs_fs.specs.Uses.{times, pair_uses}
 use Rattle.lfs_fs.specs.State.{delta_of}
 use Rattle.lfs_command.specs.EntryEdit.{place, without, changed}
 use Rattle.lfs_command.specs.DirectoryEdit.{touch, each_part, has_name, unlink_in, change_in, behind, link_parts, link_in, touch_last_of}
-use Rattle.lfs_command.specs.DirectoryEdit.{touch_last, absorb_in, absorb}
+use Rattle.lfs_command.specs.DirectoryEdit.{touch_last, absorb_in, absorb, taking_up, drop_later, has_only, emptied_in}
 use Rattle.lfs_law.proofs.EntryEdits.{place_early, place_late}
 
 -- ---- pairs
@@ -33,13 +34,22 @@ pub record KeepsParts (d new : Directory) : Type 0 where
   pub pairs : pairs (parts new) ≡ pairs (parts d)
   pub delta : delta_of (parts new) ≡ delta_of (parts d)
 
-pub begins_same : (k : Pair) (d new : Directory) → pairs (parts new) ≡ pairs (parts d) → begins_at k new ≡ begins_at k d
-begins_same k d new same =
-    let first : new.first.pair ≡ d.first.pair = cc in
-    ap (λ (p : Pair). same_pair k (unordered p)) first
+-- the first pair of d, and its delta
+pub record KeepsFirst (d new : Directory) : Type 0 where
+  pub first : new.first.pair ≡ d.first.pair
+  pub delta : delta_of (parts new) ≡ delta_of (parts d)
+
+pub begins_there : (k : Pair) (d new : Directory) → new.first.pair ≡ d.first.pair → begins_at k new ≡ begins_at k d
+begins_there k d new same = ap (λ (p : Pair). same_pair k (unordered p)) same
 
 pub first_same : (d new : Directory) → pairs (parts new) ≡ pairs (parts d) → new.first.pair ≡ d.first.pair
 first_same d new same = cc
+
+pub begins_same : (k : Pair) (d new : Directory) → pairs (parts new) ≡ pairs (parts d) → begins_at k new ≡ begins_at k d
+begins_same k d new same = begins_there k d new (first_same d new same)
+
+pub keeps_first : (d new : Directory) → KeepsParts d new → KeepsFirst d new
+keeps_first d new keeps = record { first = first_same d new keeps.pairs; delta = keeps.delta }
 
 uses_of_pairs : (b : ℕ) (ps : List Part) → sum_by (pair_uses b) ps ≡ sum_by (λ (q : Pair). times b (q.0 ∷ q.1 ∷ [])) (pairs ps)
 uses_of_pairs b [] = refl
@@ -96,6 +106,9 @@ delta_link_parts e p (q ∷ ps) = go (list_any (λ f. precedes e.name f.name) p.
 pub keeps_link : (e : Entry) (d : Directory) → KeepsParts d (link_in e d)
 keeps_link e d = record { pairs = pairs_link_parts e d.first d.more; delta = delta_link_parts e d.first d.more }
 
+pub first_link : (e : Entry) (d : Directory) → KeepsFirst d (link_in e d)
+first_link e d = keeps_first d (link_in e d) (keeps_link e d)
+
 -- ---- each part changed by itself
 
 pairs_each : (f : Part → Part) (ps : List Part) → ((p : Part) → (f p).pair ≡ p.pair) → pairs (map f ps) ≡ pairs ps
@@ -117,17 +130,133 @@ entries_each set f [] empty joins = sym empty
 entries_each set f (p ∷ ps) empty joins = ap (λ es. f p.entries ++ es) (entries_each set f ps empty joins)
     ∙ sym (joins p.entries (entries_of ps))
 
-pub entries_unlink : (n : Name) (d : Directory) → entries (unlink_in n d) ≡ without n (entries d)
-entries_unlink n d = entries_each (has_name n) (without n) (parts d) refl (filter-append (λ (e : Entry). not (is_named n e)))
-
-pub keeps_unlink : (n : Name) (d : Directory) → KeepsParts d (unlink_in n d)
-keeps_unlink n d = keeps_each (λ p. touch (has_name n p) (without n) p) d (λ p. refl) (λ p. refl)
-
 pub entries_change : (n : Name) (f : Entry → Entry) (d : Directory) → entries (change_in n f d) ≡ changed n f (entries d)
 entries_change n f d = entries_each (has_name n) (changed n f) (parts d) refl (map-append (λ (e : Entry). if is_named n e then f e else e))
 
 pub keeps_change : (n : Name) (f : Entry → Entry) (d : Directory) → KeepsParts d (change_in n f d)
 keeps_change n f d = keeps_each (λ p. touch (has_name n p) (changed n f) p) d (λ p. refl) (λ p. refl)
+
+pub first_change : (n : Name) (f : Entry → Entry) (d : Directory) → KeepsFirst d (change_in n f d)
+first_change n f d = keeps_first d (change_in n f d) (keeps_change n f d)
+
+-- ---- later parts taken out
+
+pub first_dropped : (goes : Part → Bool) (p : Part) (ps : List Part) → (drop_later goes p ps).first.pair ≡ p.pair
+unfolding drop_later
+first_dropped goes p [] = refl
+first_dropped goes p (q ∷ ps) = go (goes q) (first_dropped goes (taking_up q.delta p) ps)
+  where
+    go : (b : Bool) → (drop_later goes (taking_up q.delta p) ps).first.pair ≡ p.pair
+        → (if b then drop_later goes (taking_up q.delta p) ps else behind p (drop_later goes q ps)).first.pair ≡ p.pair
+    go true gone = gone
+    go false gone = refl
+
+delta_dropped : (goes : Part → Bool) (p : Part) (ps : List Part) → delta_of (parts (drop_later goes p ps)) ≡ delta_of (p ∷ ps)
+unfolding drop_later
+delta_dropped goes p [] = refl
+delta_dropped goes p (q ∷ ps) = go (goes q) (delta_dropped goes (taking_up q.delta p) ps) (delta_dropped goes q ps)
+  where
+    go : (b : Bool) → delta_of (parts (drop_later goes (taking_up q.delta p) ps)) ≡ delta_of (taking_up q.delta p ∷ ps)
+        → delta_of (parts (drop_later goes q ps)) ≡ delta_of (q ∷ ps)
+        → delta_of (parts (if b then drop_later goes (taking_up q.delta p) ps else behind p (drop_later goes q ps)))
+        ≡ delta_of (p ∷ q ∷ ps)
+    go true gone later = gone ∙ xor_assoc p.delta q.delta (delta_of ps)
+    go false gone later = ap (bit_xor p.delta) later
+
+-- a sum to which a part gives the same when it takes up a delta
+pub sum_dropped : (g : Part → ℕ) → ((delta : ℕ) (p : Part) → g (taking_up delta p) ≡ g p) → (goes : Part → Bool) (p : Part) (ps : List Part)
+    → sum_by g (parts (drop_later goes p ps)) + sum_by g (filter goes ps) ≡ sum_by g (p ∷ ps)
+unfolding drop_later
+sum_dropped g same goes p [] = omega arith
+sum_dropped g same goes p (q ∷ ps) = go (goes q) (sum_dropped g same goes (taking_up q.delta p) ps) (sum_dropped g same goes q ps)
+  where
+    go : (b : Bool)
+        → sum_by g (parts (drop_later goes (taking_up q.delta p) ps)) + sum_by g (filter goes ps) ≡ sum_by g (taking_up q.delta p ∷ ps)
+        → sum_by g (parts (drop_later goes q ps)) + sum_by g (filter goes ps) ≡ sum_by g (q ∷ ps)
+        → sum_by g (parts (if b then drop_later goes (taking_up q.delta p) ps else behind p (drop_later goes q ps)))
+        + sum_by g (if b then q ∷ filter goes ps else filter goes ps)
+        ≡ sum_by g (p ∷ q ∷ ps)
+    go true gone later = omega (
+      arith,
+      gone,
+      same q.delta p,
+      sum_by-cons g (taking_up q.delta p) ps,
+      sum_by-cons g q (filter goes ps),
+      sum_by-cons g p (q ∷ ps),
+      sum_by-cons g q ps,
+    )
+    go false gone later = omega (arith, later, sum_by-cons g p (parts (drop_later goes q ps)), sum_by-cons g p (q ∷ ps))
+
+and_first : (a b : Bool) → (a && b) ≡ true → a ≡ true
+and_first true b h = refl
+and_first false b h = h
+
+and_second : (a b : Bool) → (a && b) ≡ true → b ≡ true
+and_second true b h = h
+and_second false b h = cc
+
+pub only_has : (n : Name) (p : Part) → has_only n p ≡ true → has_name n p ≡ true
+only_has n p h = and_first (has_name n p) (length (without n p.entries) == 0) h
+
+only_leaves : (n : Name) (p : Part) → has_only n p ≡ true → without n p.entries ≡ []
+only_leaves n p h =
+    let none = and_second (has_name n p) (length (without n p.entries) == 0) h in
+    let len : length (without n p.entries) ≡ 0 = grind (arith, nat_tests) in
+    nil_from_length (without n p.entries) len
+
+without_append : (n : Name) (xs ys : List Entry) → without n (xs ++ ys) ≡ without n xs ++ without n ys
+without_append n = filter-append (λ (e : Entry). not (is_named n e))
+
+-- parts that have nothing but a name are as nothing where that name is taken out
+without_dropped : (n : Name) (p : Part) (ps : List Part)
+    → without n (entries_of (parts (drop_later (has_only n) p ps))) ≡ without n (entries_of (p ∷ ps))
+unfolding drop_later
+without_dropped n p [] = refl
+without_dropped n p (q ∷ ps) = go (has_only n q) refl (without_dropped n (taking_up q.delta p) ps) (without_dropped n q ps)
+  where
+    go : (b : Bool) → has_only n q ≡ b
+        → without n (entries_of (parts (drop_later (has_only n) (taking_up q.delta p) ps))) ≡ without n (p.entries ++ entries_of ps)
+        → without n (entries_of (parts (drop_later (has_only n) q ps))) ≡ without n (entries_of (q ∷ ps))
+        → without n (entries_of (parts (if b then drop_later (has_only n) (taking_up q.delta p) ps
+        else behind p (drop_later (has_only n) q ps))))
+        ≡ without n (p.entries ++ entries_of (q ∷ ps))
+    go true is gone later =
+        let rest : without n (entries_of (q ∷ ps)) ≡ without n (entries_of ps) = without_append n q.entries (entries_of ps)
+        ∙ ap (λ es. es ++ without n (entries_of ps)) (only_leaves n q is) in
+        gone ∙ without_append n p.entries (entries_of ps) ∙ ap (λ es. without n p.entries ++ es) (sym rest)
+        ∙ sym (without_append n p.entries (entries_of (q ∷ ps)))
+    go false is gone later =
+        without_append n p.entries (entries_of (parts (drop_later (has_only n) q ps)))
+        ∙ ap (λ es. without n p.entries ++ es) later
+        ∙ sym (without_append n p.entries (entries_of (q ∷ ps)))
+
+-- ---- an entry taken out
+
+-- a directory less the later parts that have nothing but a name
+abbrev pub dropped : Name → Directory → Directory
+dropped n d = drop_later (has_only n) d.first d.more
+
+pub entries_unlink : (n : Name) (d : Directory) → entries (unlink_in n d) ≡ without n (entries d)
+entries_unlink n d =
+    entries_each (has_name n) (without n) (parts (dropped n d)) refl (without_append n) ∙ without_dropped n d.first d.more
+
+pub pairs_unlink : (n : Name) (d : Directory) → pairs (parts (unlink_in n d)) ≡ pairs (parts (dropped n d))
+pairs_unlink n d = pairs_each (λ p. touch (has_name n p) (without n) p) (parts (dropped n d)) (λ p. refl)
+
+pub keeps_unlink : (n : Name) (d : Directory) → KeepsFirst d (unlink_in n d)
+keeps_unlink n d = record {
+  first = first_dropped (has_only n) d.first d.more;
+  delta = delta_each (λ p. touch (has_name n p) (without n) p) (parts (dropped n d)) (λ p. refl)
+      ∙ delta_dropped (has_only n) d.first d.more;
+}
+
+pub uses_unlink : (b : ℕ) (n : Name) (d : Directory)
+    → sum_by (pair_uses b) (parts (unlink_in n d)) + sum_by (pair_uses b) (emptied_in n d) ≡ sum_by (pair_uses b) (parts d)
+uses_unlink b n d = omega (
+  arith,
+  pair_uses_same b (dropped n d) (unlink_in n d) (pairs_unlink n d),
+  sum_dropped (pair_uses b) (λ delta p. refl) (has_only n) d.first d.more,
+)
 
 -- ---- the last part set
 

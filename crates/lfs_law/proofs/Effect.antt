@@ -4,8 +4,8 @@ use Rattle.std.specs.Prelude.{All, sum_by, count_by}
 use Rattle.lfs_meta.specs.Body.{Pair}
 use Rattle.lfs_fs.specs.declared.limits.Limits.{Limits}
 use Rattle.lfs_fs.specs.Entry.{Entry, target}
-use Rattle.lfs_fs.specs.Directory.{Directory, entries, begins_at, thread}
-use Rattle.lfs_fs.specs.Uses.{entry_uses, directory_uses}
+use Rattle.lfs_fs.specs.Directory.{Part, Directory, entries, begins_at, thread}
+use Rattle.lfs_fs.specs.Uses.{entry_uses, pair_uses, directory_uses}
 use Rattle.lfs_fs.specs.Named.{leads_to, names_of}
 use Rattle.lfs_fs.specs.State.{delta_of}
 use Rattle.lfs_fs.specs.Sound.{StartsAtRoot, Rise, IsProper}
@@ -23,6 +23,14 @@ none = record { uses = λ b. 0; names = λ k. 0; directories = λ k. 0 }
 -- those of an entry
 abbrev pub of_entry : Entry → Counts
 of_entry e = record { uses = λ b. entry_uses b e; names = λ k. leads_to k (target e); directories = λ k. 0 }
+
+-- those of an entry, and of parts that leave its directory
+abbrev pub with_parts : Entry → List Part → Counts
+with_parts e ps = record {
+  uses = λ b. entry_uses b e + sum_by (pair_uses b) ps;
+  names = λ k. leads_to k (target e);
+  directories = λ k. 0;
+}
 
 -- those of a directory
 abbrev pub of_directory : Directory → Counts

@@ -35,7 +35,7 @@ use Rattle.lfs_law.specs.WrittenLinks.{set_uses}
 use Rattle.lfs_law.proofs.CutLinksFit.{by_outline}
 use Rattle.lfs_law.proofs.Cuts.{cut_part, cut_thread, head_by, tail_by}
 use Rattle.lfs_law.proofs.Decided.{same_pair_decides}
-use Rattle.lfs_law.proofs.DirectoryEdits.{keeps_link}
+use Rattle.lfs_law.proofs.DirectoryEdits.{first_link}
 use Rattle.lfs_law.proofs.Parents.{first_passes, test_passes}
 use Rattle.lfs_law.proofs.InDirectory.{find_here}
 use Rattle.lfs_law.proofs.LeastBlocks.{new_is_supplied}
@@ -88,7 +88,7 @@ made_there v p pair at =
     let e : Entry = new_entry at.parent.name (Directory_at pair) in
     let found = found_one (begins_at k) v.directories at.once in
     let there : find (begins_at k) (link k e v.directories) ≡ Some (link_in e found.0) =
-    find_here k (link_in e) v.directories (keeps_link e) ∙ ap (option_map (link_in e)) found.1 in
+    find_here k (link_in e) v.directories (first_link e) ∙ ap (option_map (link_in e)) found.1 in
     subst (λ (h : Option (Pair × Name)). Contains (thread (make_directory v pair h).directories) (empty_directory pair).first)
     (sym at.parent.parent)
     (added_there k (empty_directory pair) (link k e v.directories) (link_in e found.0) there)

@@ -1,6 +1,6 @@
 -- One directory of a volume changed: which ones are found, what stands under other names, and the effect.
 use Rattle.std.proofs.Common.{◌≡◌, ℕ, ◌+◌, Bool, true, false, List, [], ◌∷◌, refl, ap, sym, ◌∙◌, subst, arith, Option, Some, None}
-use Rattle.std.specs.Prelude.{cond, if◌then◌else◌, sum_by, count_by, find, bit_xor}
+use Rattle.std.specs.Prelude.{cond, if◌then◌else◌, count_by, find, bit_xor}
 use Rattle.std.specs.Option.{option_and_then, option_map}
 use Rattle.lfs_meta.specs.Name.{Name}
 use Rattle.lfs_meta.specs.Body.{Pair}
@@ -8,7 +8,7 @@ use Rattle.lfs_fs.specs.Pair.{root, unordered, same_pair}
 use Rattle.lfs_fs.specs.Entry.{Entry, is_named}
 use Rattle.lfs_fs.specs.Directory.{Directory, parts, entries, begins_at, thread}
 use Rattle.lfs_fs.specs.Tree.{entry_in}
-use Rattle.lfs_fs.specs.Uses.{entry_uses, directory_uses}
+use Rattle.lfs_fs.specs.Uses.{directory_uses}
 use Rattle.lfs_fs.specs.Named.{names_of}
 use Rattle.lfs_fs.specs.State.{delta_of}
 use Rattle.lfs_fs.specs.Sound.{StartsAtRoot}
@@ -16,7 +16,7 @@ use Rattle.lfs_command.specs.ThreadEdit.{in_directory}
 use Rattle.lfs_law.proofs.Decided.{same_pair_decides}
 use Rattle.lfs_law.proofs.Effect.{Counts, Effect}
 use Rattle.lfs_law.proofs.OneElement.{sum_where, find_where, find_where_other}
-use Rattle.lfs_law.proofs.DirectoryEdits.{KeepsParts, pairs, begins_same, first_same, pair_uses_same, delta_append}
+use Rattle.lfs_law.proofs.DirectoryEdits.{KeepsFirst, pairs, begins_there, begins_same, delta_append}
 
 -- ---- pairs
 
@@ -31,17 +31,17 @@ begins_elsewhere j k differ d is = go (begins_at j d) refl
 
 -- ---- what is found
 
--- f leaves each directory's pairs and delta
-abbrev pub KeepsAllParts : (Directory → Directory) → Type 0
-KeepsAllParts f = (d : Directory) → KeepsParts d (f d)
+-- f leaves each directory's first pair and delta
+abbrev pub KeepsAllFirst : (Directory → Directory) → Type 0
+KeepsAllFirst f = (d : Directory) → KeepsFirst d (f d)
 
-pub find_here : (k : Pair) (f : Directory → Directory) (ds : List Directory) → KeepsAllParts f
+pub find_here : (k : Pair) (f : Directory → Directory) (ds : List Directory) → KeepsAllFirst f
     → find (begins_at k) (in_directory k f ds) ≡ option_map f (find (begins_at k) ds)
-find_here k f ds keeps = find_where (begins_at k) f ds (λ d is. begins_same k d (f d) (keeps d).pairs ∙ is)
+find_here k f ds keeps = find_where (begins_at k) f ds (λ d is. begins_there k d (f d) (keeps d).first ∙ is)
 
-pub find_elsewhere : (j k : Pair) (f : Directory → Directory) (ds : List Directory) → KeepsAllParts f → (j ≡ k → ⊥)
+pub find_elsewhere : (j k : Pair) (f : Directory → Directory) (ds : List Directory) → KeepsAllFirst f → (j ≡ k → ⊥)
     → find (begins_at j) (in_directory k f ds) ≡ find (begins_at j) ds
-find_elsewhere j k f ds keeps differ = find_where_other (begins_at k) (begins_at j) f ds (λ d is. begins_same j d (f d) (keeps d).pairs)
+find_elsewhere j k f ds keeps differ = find_where_other (begins_at k) (begins_at j) f ds (λ d is. begins_there j d (f d) (keeps d).first)
     (begins_elsewhere j k differ)
 
 -- the entry under a name in the directory that is found
@@ -56,7 +56,7 @@ same_entry m f None same = refl
 same_entry m f (Some d) same = same d
 
 -- the edges other than one in the directory that is changed
-pub other_edges : (k : Pair) (n : Name) (f : Directory → Directory) (ds : List Directory) → KeepsAllParts f
+pub other_edges : (k : Pair) (n : Name) (f : Directory → Directory) (ds : List Directory) → KeepsAllFirst f
     → ((m : Name) → (m ≡ n → ⊥) → (d : Directory) → find (is_named m) (entries (f d)) ≡ find (is_named m) (entries d))
     → (j : Pair) (m : Name) → ((j ≡ k) × (m ≡ n) → ⊥) → entry_in (in_directory k f ds) j m ≡ entry_in ds j m
 other_edges k n f ds keeps same j m other = go (same_pair j k) refl
@@ -100,16 +100,16 @@ empty_first j m d ds empty fresh = go (begins_at j d) refl
 
 -- ---- effects
 
-starts_in : (k : Pair) (f : Directory → Directory) (ds : List Directory) → KeepsAllParts f → StartsAtRoot ds
+starts_in : (k : Pair) (f : Directory → Directory) (ds : List Directory) → KeepsAllFirst f → StartsAtRoot ds
     → StartsAtRoot (in_directory k f ds)
 starts_in k f [] keeps starts = starts
 starts_in k f (d ∷ ds) keeps starts = go (begins_at k d)
   where
     go : (b : Bool) → (if b then f d else d).first.pair ≡ root
-    go true = first_same d (f d) (keeps d).pairs ∙ starts
+    go true = (keeps d).first ∙ starts
     go false = starts
 
-delta_in : (k : Pair) (f : Directory → Directory) (ds : List Directory) → KeepsAllParts f
+delta_in : (k : Pair) (f : Directory → Directory) (ds : List Directory) → KeepsAllFirst f
     → delta_of (thread (in_directory k f ds)) ≡ delta_of (thread ds)
 delta_in k f [] keeps = refl
 delta_in k f (d ∷ ds) keeps =
@@ -122,19 +122,19 @@ delta_in k f (d ∷ ds) keeps =
     go true = (keeps d).delta
     go false = refl
 
--- the directory of a pair changed by f, which takes out of its entries what is in `gone`, and puts in what is in `came`
-pub effect_in : (gone came : Counts) (k : Pair) (f : Directory → Directory) (ds : List Directory) (d : Directory) → KeepsAllParts f
+-- the directory of a pair changed by f, which takes out of it what is in `gone`, and puts in what is in `came`
+pub effect_in : (gone came : Counts) (k : Pair) (f : Directory → Directory) (ds : List Directory) (d : Directory) → KeepsAllFirst f
     → find (begins_at k) ds ≡ Some d → count_by (begins_at k) ds ≡ 1
-    → ((b : ℕ) → sum_by (entry_uses b) (entries (f d)) + gone.uses b ≡ sum_by (entry_uses b) (entries d) + came.uses b)
+    → ((b : ℕ) → directory_uses b (f d) + gone.uses b ≡ directory_uses b d + came.uses b)
     → ((j : Pair) → names_of j (f d) + gone.names j ≡ names_of j d + came.names j)
     → ((j : Pair) → gone.directories j ≡ came.directories j)
     → Effect gone came ds (in_directory k f ds)
 effect_in gone came k f ds d keeps found once uses names directories = record {
-  uses = λ b. omega (arith, uses b, pair_uses_same b d (f d) (keeps d).pairs, sum_where (directory_uses b) (begins_at k) f ds d found once);
+  uses = λ b. omega (arith, uses b, sum_where (directory_uses b) (begins_at k) f ds d found once);
   names = λ j. omega (arith, names j, sum_where (names_of j) (begins_at k) f ds d found once);
   directories = λ j.
       let same : cond {A = ℕ} (begins_at j (f d)) 1 0 ≡ cond (begins_at j d) 1 0 =
-      ap (λ (b : Bool). cond {A = ℕ} b 1 0) (begins_same j d (f d) (keeps d).pairs) in
+      ap (λ (b : Bool). cond {A = ℕ} b 1 0) (begins_there j d (f d) (keeps d).first) in
       omega (arith, directories j, same, sum_where (λ (x : Directory). cond {A = ℕ} (begins_at j x) 1 0) (begins_at k) f ds d found once);
   starts = starts_in k f ds keeps;
   delta = delta_in k f ds keeps;

@@ -17,9 +17,10 @@ use Rattle.lfs_fs.specs.Thread.{Link, links_of, links, tail_to, hard_to, soft_to
 use Rattle.lfs_fs.proofs.ContainsLemmas.{contains_later}
 use Rattle.lfs_command.specs.EntryEdit.{place, without, changed}
 use Rattle.lfs_command.specs.DirectoryEdit.{touch, has_name, unlink_in, change_in, behind, link_parts, link_in, touch_last_of, touch_last}
-use Rattle.lfs_command.specs.DirectoryEdit.{absorb_in, absorb}
+use Rattle.lfs_command.specs.DirectoryEdit.{absorb_in, absorb, taking_up, drop_later, has_only}
 use Rattle.lfs_command.specs.ThreadEdit.{in_directory, link, unlink, change, add_after, take_out, drop_directory, touch_first}
 use Rattle.lfs_command.specs.Kept.{IsKept, KeepLinks}
+use Rattle.lfs_law.proofs.DirectoryEdits.{first_dropped, dropped, keeps_unlink}
 
 -- ---- lists of links
 
@@ -156,10 +157,6 @@ unlink_sets n = record { pair = λ p. refl; sets = λ p. touched (has_name n p) 
 change_sets : (n : Name) (f : Entry → Entry) → SetsParts (λ p. touch (has_name n p) (changed n f) p)
 change_sets n f = record { pair = λ p. refl; sets = λ p. touched (has_name n p) (changed n f) p (changed_no_name n f p.entries) }
 
-pub unlink_kept : (k : Pair) (n : Name) (ds : List Directory) → KeepLinks ds (unlink k n ds)
-unlink_kept k n ds = in_directory_kept k (unlink_in n) (λ d. refl) (λ d tail.
-    each_kept (λ p. touch (has_name n p) (without n) p) (unlink_sets n) d.first d.more tail) ds
-
 pub change_kept : (k : Pair) (n : Name) (f : Entry → Entry) (ds : List Directory) → KeepLinks ds (change k n f ds)
 change_kept k n f ds = in_directory_kept k (change_in n f) (λ d. refl)
     (λ d tail. each_kept (λ p. touch (has_name n p) (changed n f) p) (change_sets n f) d.first d.more tail) ds
@@ -221,6 +218,55 @@ link_parts_kept e p (q ∷ ps) tail = link_by e p q ps tail (list_any (λ f. pre
 
 pub link_kept : (k : Pair) (e : Entry) (ds : List Directory) → KeepLinks ds (link k e ds)
 link_kept k e ds = in_directory_kept k (link_in e) (λ d. link_pair e d.first d.more) (λ d tail. link_parts_kept e d.first d.more tail) ds
+
+-- ---- later parts taken out
+
+-- one edit of a list after another
+kept_through : (old mid : List Link) → All (IsKept old) mid → (ls : List Link) → All (IsKept mid) ls → All (IsKept old) ls
+kept_through old mid first ls second = All-weaker (IsKept mid) (IsKept old)
+    (λ l h. elim h [ inl set ↦ inl set | inr was ↦ All-contains (IsKept old) mid l first was ]) ls second
+
+-- a part that takes up a delta is set, and those after the next one stay
+taken_up_kept : (delta : ℕ) (p q : Part) (ps : List Part) (tail : Tail)
+    → All (IsKept (links_of p (q ∷ ps) tail)) (links_of (taking_up delta p) ps tail)
+taken_up_kept delta p q [] tail = All-cons (IsKept (links_of p (q ∷ []) tail)) (record { part = taking_up delta p; tail = tail }) []
+    (inl refl) (All-nil (IsKept (links_of p (q ∷ []) tail)))
+taken_up_kept delta p q (r ∷ ps) tail =
+    All-cons (IsKept (links_of p (q ∷ r ∷ ps) tail)) (record { part = taking_up delta p; tail = hard_to r.pair }) (links_of r ps tail)
+    (inl refl)
+    (weaker (links_of r ps tail) (links_of p (q ∷ r ∷ ps) tail)
+    (λ l h. contains_later (record { part = p; tail = hard_to q.pair }) (links_of q (r ∷ ps) tail) l
+    (contains_later (record { part = q; tail = hard_to r.pair }) (links_of r ps tail) l h))
+    (links_of r ps tail) (itself (links_of r ps tail)))
+
+dropped_kept : (goes : Part → Bool) (p : Part) (ps : List Part) (tail : Tail)
+    → All (IsKept (links_of p ps tail)) (links_of (drop_later goes p ps).first (drop_later goes p ps).more tail)
+unfolding drop_later
+dropped_kept goes p [] tail = itself (links_of p [] tail)
+dropped_kept goes p (q ∷ ps) tail = go (goes q) (dropped_kept goes (taking_up q.delta p) ps tail) (dropped_kept goes q ps tail)
+  where
+    go : (b : Bool)
+        → All (IsKept (links_of (taking_up q.delta p) ps tail))
+        (links_of (drop_later goes (taking_up q.delta p) ps).first (drop_later goes (taking_up q.delta p) ps).more tail)
+        → All (IsKept (links_of q ps tail)) (links_of (drop_later goes q ps).first (drop_later goes q ps).more tail)
+        → All (IsKept (links_of p (q ∷ ps) tail))
+        (links_of (if b then drop_later goes (taking_up q.delta p) ps else behind p (drop_later goes q ps)).first
+        (if b then drop_later goes (taking_up q.delta p) ps else behind p (drop_later goes q ps)).more tail)
+    go true gone later = kept_through (links_of p (q ∷ ps) tail) (links_of (taking_up q.delta p) ps tail)
+        (taken_up_kept q.delta p q ps tail)
+        (links_of (drop_later goes (taking_up q.delta p) ps).first (drop_later goes (taking_up q.delta p) ps).more tail) gone
+    go false gone later = behind_kept p q ps tail (drop_later goes q ps) (first_dropped goes q ps) later
+
+unlinked_kept : (n : Name) (d : Directory) (tail : Tail)
+    → All (IsKept (links_of d.first d.more tail)) (links_of (unlink_in n d).first (unlink_in n d).more tail)
+unlinked_kept n d tail =
+    let left : Directory = dropped n d in
+    kept_through (links_of d.first d.more tail) (links_of left.first left.more tail) (dropped_kept (has_only n) d.first d.more tail)
+    (links_of (unlink_in n d).first (unlink_in n d).more tail)
+    (each_kept (λ p. touch (has_name n p) (without n) p) (unlink_sets n) left.first left.more tail)
+
+pub unlink_kept : (k : Pair) (n : Name) (ds : List Directory) → KeepLinks ds (unlink k n ds)
+unlink_kept k n ds = in_directory_kept k (unlink_in n) (λ d. (keeps_unlink n d).first) (unlinked_kept n) ds
 
 -- ---- directories that come and go
 

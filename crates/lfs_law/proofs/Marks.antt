@@ -1,7 +1,7 @@
 -- How many parts an edit marks.
-use Rattle.std.proofs.Common.{◌≡◌, ℕ, ◌+◌, ◌≤◌, Bool, true, false, List, [], ◌∷◌, ◌++◌, refl, arith, map, Option, Some, None}
+use Rattle.std.proofs.Common.{◌≡◌, ℕ, ◌+◌, ◌≤◌, Bool, true, false, List, [], ◌∷◌, ◌++◌, refl, ap, arith, map, Option, Some, None}
 use Rattle.std.specs.Prelude.{cond, ◌||◌, if◌then◌else◌, sum_by, count_by, find}
-use Rattle.std.specs.List.{list_any}
+use Rattle.std.specs.List.{list_any, filter}
 use Rattle.std.proofs.lemmas.List.Sums.{sum_by-cons, sum_by-append}
 use Rattle.lfs_meta.specs.Name.{Name}
 use Rattle.lfs_meta.specs.Body.{Pair}
@@ -14,12 +14,12 @@ use Rattle.lfs_fs.specs.Sound.{Rise}
 use Rattle.lfs_fs.proofs.OrderedEndLemmas.{none_counted}
 use Rattle.lfs_command.specs.EntryEdit.{place, without, changed}
 use Rattle.lfs_command.specs.DirectoryEdit.{touch, has_name, unlink_in, change_in, behind, link_parts, link_in, touch_last_of, touch_last}
-use Rattle.lfs_command.specs.DirectoryEdit.{absorb_in, absorb}
+use Rattle.lfs_command.specs.DirectoryEdit.{absorb_in, absorb, taking_up, drop_later, has_only}
 use Rattle.lfs_command.specs.ThreadEdit.{in_directory, link, unlink, change, add_after, take_out, drop_directory, touch_first}
 use Rattle.lfs_law.proofs.Effect.{AreGood}
 use Rattle.lfs_law.proofs.OneElement.{count_cases, found_one, found_has, sum_where}
 use Rattle.lfs_law.proofs.EntryEdits.{once_named}
-use Rattle.lfs_law.proofs.DirectoryEdits.{entries_of}
+use Rattle.lfs_law.proofs.DirectoryEdits.{entries_of, only_has, sum_dropped, dropped}
 
 -- how many of these parts are marked
 abbrev pub marks : List Part → ℕ
@@ -99,10 +99,67 @@ named_once n es ordered rise = go (find (is_named n) es) refl
     go None is = omega (arith, none_counted (is_named n) es is)
     go (Some e) is = omega (arith, once_named n es e ordered rise is)
 
+-- a part that is taken out gives its mark to the one before it
+marks_dropped : (goes : Part → Bool) (p : Part) (ps : List Part) → marks (parts (drop_later goes p ps)) ≤ marks (p ∷ ps) + count_by goes ps
+unfolding drop_later
+marks_dropped goes p [] = omega arith
+marks_dropped goes p (q ∷ ps) = go (goes q) refl (marks_dropped goes (taking_up q.delta p) ps) (marks_dropped goes q ps)
+  where
+    go : (b : Bool) → goes q ≡ b
+        → marks (parts (drop_later goes (taking_up q.delta p) ps)) ≤ marks (taking_up q.delta p ∷ ps) + count_by goes ps
+        → marks (parts (drop_later goes q ps)) ≤ marks (q ∷ ps) + count_by goes ps
+        → marks (parts (if b then drop_later goes (taking_up q.delta p) ps else behind p (drop_later goes q ps)))
+        ≤ marks (p ∷ q ∷ ps) + count_by goes (q ∷ ps)
+    go true is gone later = omega (
+      arith,
+      gone,
+      marks_cons (taking_up q.delta p) ps,
+      marks_cons p (q ∷ ps),
+      marks_cons q ps,
+      count_cases goes q ps,
+      ap (λ (t : Bool). cond {A = ℕ} t 1 0) is,
+    )
+    go false is gone later = omega (
+      arith,
+      later,
+      marks_cons p (parts (drop_later goes q ps)),
+      marks_cons p (q ∷ ps),
+      count_cases goes q ps,
+      ap (λ (t : Bool). cond {A = ℕ} t 1 0) is,
+    )
+
+-- parts that have nothing but a name have it
+only_taken : (n : Name) (ps : List Part) → count_by (has_only n) ps ≤ count_by (has_name n) (filter (has_only n) ps)
+only_taken n [] = omega arith
+only_taken n (p ∷ ps) = by (has_only n p) refl (only_taken n ps)
+  where
+    by : (t : Bool) → has_only n p ≡ t → count_by (has_only n) ps ≤ count_by (has_name n) (filter (has_only n) ps)
+        → count_by (has_only n) (p ∷ ps) ≤ count_by (has_name n) (if t then p ∷ filter (has_only n) ps else filter (has_only n) ps)
+    by true is later = omega (
+      arith,
+      later,
+      count_cases (has_only n) p ps,
+      count_cases (has_name n) p (filter (has_only n) ps),
+      ap (λ (t : Bool). cond {A = ℕ} t 1 0) is,
+      ap (λ (t : Bool). cond {A = ℕ} t 1 0) (only_has n p is),
+    )
+    by false is later = omega (arith, later, count_cases (has_only n) p ps, ap (λ (t : Bool). cond {A = ℕ} t 1 0) is)
+
+-- the parts with a name: those that are left, and those that are taken out
+names_left : (n : Name) (d : Directory)
+    → count_by (has_name n) (parts (dropped n d)) + count_by (has_only n) d.more ≤ count_by (has_name n) (parts d)
+names_left n d = omega (
+  arith,
+  sum_dropped (λ (p : Part). cond {A = ℕ} (has_name n p) 1 0) (λ delta p. refl) (has_only n) d.first d.more,
+  only_taken n d.more,
+)
+
 pub marks_unlink_in : (n : Name) (d : Directory) → NamesAreOrdered → Rise (entries d) → marks (parts (unlink_in n d)) ≤ marks (parts d) + 1
 marks_unlink_in n d ordered rise = omega (
   arith,
-  marks_each (has_name n) (without n) (parts d),
+  marks_each (has_name n) (without n) (parts (dropped n d)),
+  marks_dropped (has_only n) d.first d.more,
+  names_left n d,
   parts_with_name n (parts d),
   named_once n (entries d) ordered rise,
 )

@@ -1,7 +1,7 @@
 -- What is moved follows its equation.
-use Rattle.std.proofs.Common.{◌≡◌, ℕ, ◌≤◌, nat_lt, false, List, [], ◌∷◌, ◌++◌, refl, ap, sym, ◌∙◌, subst, arith, length, append-nil, Option}
+use Rattle.std.proofs.Common.{◌≡◌, ℕ, ◌+◌, ◌≤◌, nat_lt, false, List, [], ◌∷◌, ◌++◌, refl, ap, sym, ◌∙◌, subst, arith, length, append-nil, Option}
 use Rattle.std.proofs.Common.{Some, None}
-use Rattle.std.specs.Prelude.{count_by}
+use Rattle.std.specs.Prelude.{sum_by, count_by}
 use Rattle.std.specs.Option.{option_map, unwrap_or}
 use Rattle.std.proofs.lemmas.Bool.Decides.{nat_tests}
 use Rattle.std.proofs.lemmas.Option.{none-some}
@@ -13,14 +13,15 @@ use Rattle.lfs_fs.specs.Entry.{Entry}
 use Rattle.lfs_fs.specs.Directory.{Directory, begins_at}
 use Rattle.lfs_fs.specs.Volume.{Volume}
 use Rattle.lfs_fs.specs.Tree.{entry_at, entry_in, tree}
-use Rattle.lfs_fs.specs.Uses.{uses}
+use Rattle.lfs_fs.specs.Uses.{pair_uses, uses}
 use Rattle.lfs_fs.specs.Sound.{IsSound, IsProper}
 use Rattle.lfs_command.specs.PathMap.{below, moved}
 use Rattle.lfs_command.specs.ThreadEdit.{link, unlink}
 use Rattle.lfs_command.specs.Parent.{parent_of}
 use Rattle.lfs_command.specs.Edited.{with_directories, renamed, move_entry}
 use Rattle.lfs_command.specs.Verdict.{lies_below}
-use Rattle.lfs_law.proofs.Effect.{Effect, AreGood, none, of_entry, of_both, in_a_row}
+use Rattle.lfs_command.specs.Freed.{emptied_among, emptied_parts, emptied_uses}
+use Rattle.lfs_law.proofs.Effect.{Counts, Effect, AreGood, none, of_entry, with_parts, of_both, in_a_row}
 use Rattle.lfs_law.proofs.MovedEdge.{MovedEdge, tree_moved, reached_moved}
 use Rattle.lfs_law.proofs.PathMapLemmas.{below_some}
 use Rattle.lfs_law.proofs.SoundAfter.{sound_after}
@@ -28,11 +29,11 @@ use Rattle.lfs_law.proofs.ThreadEdits.{link_edge, link_other, link_effect, link_
 use Rattle.lfs_law.proofs.EdgeEdits.{SameFrame, sound_is_good}
 use Rattle.lfs_law.proofs.Placed.{IsPlaced, proper_entry}
 
--- a sound volume in the same frame, with the same uses of blocks, whose tree is moved
+-- a sound volume in the same frame, with the same uses of blocks less those of parts that leave, whose tree is moved
 pub record Moves (v w : Volume) (p q : Path) : Type 0 where
   pub sound : IsSound w
   pub frame : SameFrame v w
-  pub uses : (b : ℕ) → uses b w ≡ uses b v
+  pub uses : (b : ℕ) → uses b w + emptied_uses v p b ≡ uses b v
   pub at : (path : Path) → tree w path ≡ moved p q (tree v) path
 
 -- A path at which nothing is doesn't lie at or below one at which something is, unless strictly below.
@@ -68,7 +69,8 @@ mv_follows v p q e ordered sound from to here free off fits =
     let two = apart v.directories k j n m e edge no_edge in
     let good : AreGood v.limits v.directories = sound_is_good v sound in
     let unlinked : List Directory = unlink k n v.directories in
-    let first : Effect (of_entry e) none v.directories unlinked = unlink_effect v.limits k n e v.directories ordered good from.once edge in
+    let gone : Counts = with_parts e (emptied_among v.directories k n) in
+    let first : Effect gone none v.directories unlinked = unlink_effect v.limits k n e v.directories ordered good from.once edge in
     let once : count_by (begins_at j) unlinked ≡ 1 = omega (arith, first.directories j, to.once) in
     let fresh : entry_in unlinked j m ≡ None = unlink_other k n v.directories j m (λ both. two (sym both.0, sym both.1)) ∙ no_edge in
     let was : IsProper v.limits e = proper_entry v sound k n e edge in
@@ -101,19 +103,24 @@ mv_follows v p q e ordered sound from to here free off fits =
       others = λ i l not_from not_to. link_other j x unlinked i l not_to ∙ unlink_other k n v.directories i l not_from;
     } in
     let follows : Moves v w p q = record {
-      sound = sound_after v w (of_both (of_entry e) none) (of_both none (of_entry x)) sound
-          (in_a_row (of_entry e) none none (of_entry x) v.directories unlinked ds first second)
+      sound = sound_after v w (of_both gone none) (of_both none (of_entry x)) sound
+          (in_a_row gone none none (of_entry x) v.directories unlinked ds first second)
           (link_good v.limits j x unlinked ordered (unlink_good v.limits k n v.directories good) once fresh proper)
           sound.root_attributes refl
           (record {
             once = λ b. omega (arith, sound.once b);
             within = λ b less. let no : ⊥ = omega arith in absurd no;
             names = λ i. omega arith;
-            stay = λ i gone reached. reached_moved moves i reached;
+            stay = λ i away reached. reached_moved moves i reached;
             come = λ i some. let no : ⊥ = omega arith in absurd no;
           });
       frame = record { size = refl; count = refl; limits = refl };
-      uses = λ b. omega (arith, first.uses b, second.uses b);
+      uses = λ b. omega (
+        arith,
+        first.uses b,
+        second.uses b,
+        ap (λ (h : Option (Pair × Name)). sum_by (pair_uses b) (emptied_parts v h)) from.parent.parent,
+      );
       at = λ path.
           tree_moved moves path
           ∙ ap (λ (y : Path). moved y (to.parent.front ++ m ∷ []) (tree v) path) (sym from.parent.complete)

@@ -36,7 +36,7 @@ use Rattle.lfs_law.specs.WrittenLinks.{number_in, written_blocks, set_blocks, li
 use Rattle.lfs_command.specs.Need.{is_new_to}
 use Rattle.lfs_law.specs.PlansHold.{content_blocks, BlocksAreWrittenOnce, BlocksAreTaken}
 use Rattle.lfs_law.proofs.Cuts.{cut_part, pair_times, pairs_for, head_by, tail_by, all_uses, cut_thread}
-use Rattle.lfs_law.proofs.DirectoryEdits.{keeps_link}
+use Rattle.lfs_law.proofs.DirectoryEdits.{first_link}
 use Rattle.lfs_law.proofs.Parents.{first_passes, test_passes}
 use Rattle.lfs_law.proofs.InDirectory.{find_here}
 use Rattle.lfs_law.proofs.LinksAdded.{times_cons, times_append, first_used, one_use, set_is}
@@ -151,7 +151,7 @@ made_alone v p pair n at =
     let e : Entry = new_entry at.parent.name (Directory_at pair) in
     let found = found_one (begins_at k) v.directories at.once in
     let there : find (begins_at k) (link k e v.directories) ≡ Some (link_in e found.0) =
-    find_here k (link_in e) v.directories (keeps_link e) ∙ ap (option_map (link_in e)) found.1 in
+    find_here k (link_in e) v.directories (first_link e) ∙ ap (option_map (link_in e)) found.1 in
     let none : total (new_times v n) (link k e v.directories) ≡ 0 = link_total (new_times v n) k e v.directories ∙ no_new_pairs v n in
     subst (λ (h : Option (Pair × Name)). set_total (new_times v n) (thread (make_directory v pair h).directories) ≡ new_times v n pair)
     (sym at.parent.parent)

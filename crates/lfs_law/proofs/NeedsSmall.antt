@@ -23,7 +23,8 @@ use Rattle.lfs_fs.specs.Superblock.{IsLimits}
 use Rattle.lfs_fs.specs.Tree.{entry_at, tree}
 use Rattle.lfs_command.specs.EntryEdit.{place, without, changed}
 use Rattle.lfs_command.specs.DirectoryEdit.{touch, has_name, unlink_in, change_in, behind, link_parts, link_in, touch_last_of, touch_last}
-use Rattle.lfs_command.specs.DirectoryEdit.{absorb_in, absorb, taking_up}
+use Rattle.lfs_command.specs.DirectoryEdit.{absorb_in, absorb, taking_up, drop_later, has_only}
+use Rattle.lfs_law.proofs.DirectoryEdits.{dropped}
 use Rattle.lfs_command.specs.ThreadEdit.{in_directory, link, unlink, change, add_after, take_out, touch_first}
 use Rattle.lfs_command.specs.Command.{Command, Mkdir, Put, Rm, Mv, SetAttr, RmAttr, Grow}
 use Rattle.lfs_command.specs.Supplies.{nothing, most_inline, new_body}
@@ -191,6 +192,26 @@ changed_less : (n : Name) (f : Entry → Entry) (es : List Entry) → length (ch
 changed_less n f [] = omega arith
 changed_less n f (e ∷ es) = omega (arith, changed_less n f es)
 
+dropped_few : (m : ℕ) (goes : Part → Bool) (p : Part) (ps : List Part) → All (IsFew m) (p ∷ ps)
+    → All (IsFew m) (parts (drop_later goes p ps))
+unfolding drop_later
+dropped_few m goes p [] few = few
+dropped_few m goes p (q ∷ ps) few = go (goes q) (dropped_few m goes (taking_up q.delta p) ps gone) (dropped_few m goes q ps rest)
+  where
+    first : IsFew m p
+    first = All-head (IsFew m) p (q ∷ ps) few
+
+    rest : All (IsFew m) (q ∷ ps)
+    rest = All-tail (IsFew m) p (q ∷ ps) few
+
+    gone : All (IsFew m) (taking_up q.delta p ∷ ps)
+    gone = All-cons (IsFew m) (taking_up q.delta p) ps first (All-tail (IsFew m) q ps rest)
+
+    go : (b : Bool) → All (IsFew m) (parts (drop_later goes (taking_up q.delta p) ps)) → All (IsFew m) (parts (drop_later goes q ps))
+        → All (IsFew m) (parts (if b then drop_later goes (taking_up q.delta p) ps else behind p (drop_later goes q ps)))
+    go true without_it later = without_it
+    go false without_it later = All-cons (IsFew m) p (parts (drop_later goes q ps)) first later
+
 last_few : (m : ℕ) (p : Part) (ps : List Part) → All (IsFew m) (p ∷ ps) → All (IsFew m) (parts (touch_last_of p ps))
 unfolding touch_last_of
 last_few m p [] few = All-cons (IsFew m) (touch true (λ es. es) p) [] (All-head (IsFew m) p [] few) (All-nil (IsFew m))
@@ -222,7 +243,7 @@ all_link m k e ds few = in_few m (m + 1) k (link_in e) ds (omega arith) (λ d. l
 
 all_unlink : (m : ℕ) (k : Pair) (n : Name) (ds : List Directory) → AreFew m ds → AreFew m (unlink k n ds)
 all_unlink m k n ds few = in_few m m k (unlink_in n) ds (omega arith)
-    (λ d. each_few m (has_name n) (without n) (parts d) (without_less n)) few
+    (λ d few. each_few m (has_name n) (without n) (parts (dropped n d)) (without_less n) (dropped_few m (has_only n) d.first d.more few)) few
 
 all_change : (m : ℕ) (k : Pair) (n : Name) (f : Entry → Entry) (ds : List Directory) → AreFew m ds → AreFew m (change k n f ds)
 all_change m k n f ds few = in_few m m k (change_in n f) ds (omega arith)

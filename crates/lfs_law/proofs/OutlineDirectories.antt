@@ -1,9 +1,9 @@
 -- Edits of the outline of a directory, and of directories in the order of the thread.
-use Rattle.std.proofs.Common.{◌≡◌, ℕ, Bool, true, false, List, [], ◌∷◌, ◌++◌, refl, ap, sym, ◌∙◌, map, Some}
-use Rattle.std.specs.Prelude.{◌||◌, if◌then◌else◌, find, bit_xor}
-use Rattle.std.specs.List.{list_any}
+use Rattle.std.proofs.Common.{◌≡◌, ℕ, Bool, true, false, List, [], ◌∷◌, ◌++◌, refl, ap, sym, ◌∙◌, map, length, Some}
+use Rattle.std.specs.Prelude.{◌==◌, ◌&&◌, ◌||◌, if◌then◌else◌, find, bit_xor}
+use Rattle.std.specs.List.{list_any, filter}
 use Rattle.std.specs.Option.{option_map}
-use Rattle.std.proofs.lemmas.List.{map-append}
+use Rattle.std.proofs.lemmas.List.{map-append, length-map}
 use Rattle.lfs_meta.specs.Name.{Name}
 use Rattle.lfs_meta.specs.Body.{Pair}
 use Rattle.lfs_fs.specs.NameOrder.{precedes}
@@ -13,7 +13,7 @@ use Rattle.lfs_fs.specs.State.{delta_of}
 use Rattle.lfs_fs.specs.Outlined.{outlined_entry, outlined_part, outlined_directory, outlined_directories}
 use Rattle.lfs_command.specs.EntryEdit.{place, without, changed}
 use Rattle.lfs_command.specs.DirectoryEdit.{touch, each_part, has_name, unlink_in, change_in, behind, link_parts, link_in, touch_last_of}
-use Rattle.lfs_command.specs.DirectoryEdit.{touch_last, absorb_in, absorb}
+use Rattle.lfs_command.specs.DirectoryEdit.{touch_last, absorb_in, absorb, taking_up, drop_later, has_only}
 use Rattle.lfs_command.specs.ThreadEdit.{in_directory, link, unlink, change, add_after, take_out, drop_directory, touch_first}
 use Rattle.lfs_law.proofs.DirectoryEdits.{entries_of}
 use Rattle.lfs_law.proofs.OutlineEntries.{cons_same, outlined_entries, any_named_outlined, any_later_outlined, place_outlined}
@@ -65,10 +65,51 @@ each_outlined f g same d =
     ap (λ (p : Part). record { first = p; more = map g (outlined_parts d.more) }) (same d.first)
     ∙ ap (λ (ps : List Part). record { first = outlined_part (f d.first); more = ps }) (each_parts f g same d.more)
 
+-- ---- later parts taken out
+
+pub only_outlined : (n : Name) (p : Part) → has_only n (outlined_part p) ≡ has_only n p
+only_outlined n p =
+    ap (λ (t : Bool). t && length (without n (outlined_entries p.entries)) == 0) (any_named_outlined n p.entries)
+    ∙ ap (λ (es : List Entry). has_name n p && length es == 0) (without_outlined n p.entries)
+    ∙ ap (λ (l : ℕ). has_name n p && l == 0) (length-map (without n p.entries) outlined_entry)
+
+dropped_outlined : (goes : Part → Bool) → ((p : Part) → goes (outlined_part p) ≡ goes p) → (p : Part) (ps : List Part)
+    → drop_later goes (outlined_part p) (outlined_parts ps) ≡ outlined_directory (drop_later goes p ps)
+unfolding drop_later
+dropped_outlined goes same p [] = refl
+dropped_outlined goes same p (q ∷ ps) =
+    ap (λ (t : Bool). if t then drop_later goes (taking_up q.delta (outlined_part p)) (outlined_parts ps)
+    else behind (outlined_part p) (drop_later goes (outlined_part q) (outlined_parts ps))) (same q)
+    ∙ go (goes q) (dropped_outlined goes same (taking_up q.delta p) ps) (dropped_outlined goes same q ps)
+  where
+    go : (t : Bool)
+        → drop_later goes (outlined_part (taking_up q.delta p)) (outlined_parts ps) ≡ outlined_directory (drop_later goes (taking_up q.delta p) ps)
+        → drop_later goes (outlined_part q) (outlined_parts ps) ≡ outlined_directory (drop_later goes q ps)
+        → (if t then drop_later goes (taking_up q.delta (outlined_part p)) (outlined_parts ps)
+        else behind (outlined_part p) (drop_later goes (outlined_part q) (outlined_parts ps)))
+        ≡ outlined_directory (if t then drop_later goes (taking_up q.delta p) ps else behind p (drop_later goes q ps))
+    go true gone later = gone
+    go false gone later = ap (behind (outlined_part p)) later
+
+-- the parts that leave a directory
+pub emptied_outlined : (n : Name) (ps : List Part) → filter (has_only n) (outlined_parts ps) ≡ outlined_parts (filter (has_only n) ps)
+emptied_outlined n [] = refl
+emptied_outlined n (p ∷ ps) =
+    ap (λ (t : Bool). if t then outlined_part p ∷ filter (has_only n) (outlined_parts ps) else filter (has_only n) (outlined_parts ps))
+    (only_outlined n p) ∙ go (has_only n p) (emptied_outlined n ps)
+  where
+    go : (t : Bool) → filter (has_only n) (outlined_parts ps) ≡ outlined_parts (filter (has_only n) ps)
+        → (if t then outlined_part p ∷ filter (has_only n) (outlined_parts ps) else filter (has_only n) (outlined_parts ps))
+        ≡ outlined_parts (if t then p ∷ filter (has_only n) ps else filter (has_only n) ps)
+    go true later = ap (λ (qs : List Part). outlined_part p ∷ qs) later
+    go false later = later
+
 unlink_in_outlined : (n : Name) (d : Directory) → unlink_in n (outlined_directory d) ≡ outlined_directory (unlink_in n d)
 unlink_in_outlined n d =
-    each_outlined (λ p. touch (has_name n p) (without n) p) (λ p. touch (has_name n p) (without n) p)
-    (each_by (has_name n) (without n) (without n) (λ p. any_named_outlined n p.entries) (without_outlined n)) d
+    ap (each_part (λ p. touch (has_name n p) (without n) p)) (dropped_outlined (has_only n) (only_outlined n) d.first d.more)
+    ∙ each_outlined (λ p. touch (has_name n p) (without n) p) (λ p. touch (has_name n p) (without n) p)
+    (each_by (has_name n) (without n) (without n) (λ p. any_named_outlined n p.entries) (without_outlined n))
+    (drop_later (has_only n) d.first d.more)
 
 change_in_outlined : (n : Name) (f g : Entry → Entry) → Outlines f g → (d : Directory)
     → change_in n g (outlined_directory d) ≡ outlined_directory (change_in n f d)

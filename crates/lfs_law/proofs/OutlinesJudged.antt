@@ -1,20 +1,22 @@
 -- An outline is judged as its volume is.
-use Rattle.std.proofs.Common.{◌≡◌, ℕ, ◌+◌, ◌==◌, nat_lt, not, Bool, true, List, [], ◌∷◌, ◌++◌, length, refl, ap, sym, ◌∙◌, Option, Some}
+use Rattle.std.proofs.Common.{◌≡◌, ℕ, ◌+◌, ◌==◌, nat_lt, not, Bool, true, List, [], ◌∷◌, ◌++◌, length, refl, ap, sym, ◌∙◌, arith, Option, Some}
 use Rattle.std.proofs.Common.{None}
 use Rattle.std.specs.Prelude.{◌&&◌, ◌||◌, find, is_some, is_none, sum_by}
 use Rattle.std.specs.List.{list_any}
 use Rattle.std.specs.Option.{option_map, option_and_then, unwrap_or}
 use Rattle.std.proofs.lemmas.List.{length-map}
+use Rattle.std.proofs.lemmas.List.Sums.{sum_by-cons}
+use Rattle.lfs_meta.specs.Name.{Name}
 use Rattle.lfs_meta.specs.Attribute.{Attributes}
 use Rattle.lfs_meta.specs.Body.{Pair}
 use Rattle.lfs_fs.specs.Path.{Path}
 use Rattle.lfs_fs.specs.Entry.{Body, Inline, Chain, Directory_at, Entry, target}
-use Rattle.lfs_fs.specs.Directory.{Directory, entries, begins_at}
+use Rattle.lfs_fs.specs.Directory.{Part, Directory, entries, begins_at}
 use Rattle.lfs_fs.specs.Volume.{Volume}
 use Rattle.lfs_fs.specs.Tree.{Node, entry_at, node, node_of, tree}
-use Rattle.lfs_fs.specs.Uses.{entry_uses, directory_uses}
+use Rattle.lfs_fs.specs.Uses.{entry_uses, pair_uses, directory_uses}
 use Rattle.lfs_fs.specs.Free.{free_blocks}
-use Rattle.lfs_fs.specs.Outlined.{outlined_body, outlined_entry, outlined_directory, outlined}
+use Rattle.lfs_fs.specs.Outlined.{outlined_body, outlined_entry, outlined_part, outlined_directory, outlined}
 use Rattle.lfs_fs.proofs.OutlinedLemmas.{directory_uses_same, outlined_free, outlined_at}
 use Rattle.lfs_command.specs.declared.refusal.Refusal.{Refusal}
 use Rattle.lfs_command.specs.declared.refusal.Refusal.TheVariants.{NotFound, Exists, IsADirectory, NotEmpty, NameTooLong, NoAttr}
@@ -25,13 +27,15 @@ use Rattle.lfs_command.specs.Supplies.{Supplies, nothing}
 use Rattle.lfs_command.specs.Edited.{edited}
 use Rattle.lfs_law.specs.EditedOutline.{edited_outline}
 use Rattle.lfs_command.specs.Need.{dirty_parts, data_blocks, directory_blocks, part_blocks, need}
-use Rattle.lfs_command.specs.Freed.{content_uses, folder_uses, target_uses, freed_uses}
+use Rattle.lfs_command.specs.Freed.{content_uses, folder_uses, target_uses, emptied_parts, emptied_uses, freed_uses}
+use Rattle.lfs_command.specs.DirectoryEdit.{emptied_in}
+use Rattle.lfs_command.specs.Parent.{parent_of}
 use Rattle.lfs_command.specs.Verdict.{refuse_if, first_refusal, walk_refusal_at, walk_refusal, is_directory, is_root, last_length, is_bare}
 use Rattle.lfs_command.specs.Verdict.{has_attribute, lies_below, checks, is_too_large, room_checks}
 use Rattle.lfs_law.specs.JudgedAlike.{OutlinesAreJudgedAlike}
 use Rattle.lfs_law.proofs.OutlineEntries.{uses_same}
-use Rattle.lfs_law.proofs.OutlineDirectories.{entries_outlined, find_directory_outlined}
-use Rattle.lfs_law.proofs.OutlinesFollow.{target_outlined, outlines_follow}
+use Rattle.lfs_law.proofs.OutlineDirectories.{outlined_parts, entries_outlined, emptied_outlined, find_directory_outlined}
+use Rattle.lfs_law.proofs.OutlinesFollow.{target_outlined, parent_outlined, outlines_follow}
 use Rattle.lfs_law.proofs.OutlineRoom.{outlines_take_same_room, outlined_twice}
 
 -- ---- what is at a path, its bytes aside
@@ -222,12 +226,38 @@ target_uses_same : (v : Volume) (p : Path) (b : ℕ) → target_uses (outlined v
 target_uses_same v p b = ap (λ (o : Option Pair). unwrap_or (option_map (λ k. folder_uses (outlined v) k b) o) 0) (target_same_at v p)
     ∙ folder_at v b (option_and_then target (entry_at v p))
 
+parts_same : (b : ℕ) (ps : List Part) → sum_by (pair_uses b) (outlined_parts ps) ≡ sum_by (pair_uses b) ps
+parts_same b [] = refl
+parts_same b (p ∷ ps) = omega (
+  arith,
+  parts_same b ps,
+  sum_by-cons (pair_uses b) (outlined_part p) (outlined_parts ps),
+  sum_by-cons (pair_uses b) p ps,
+)
+
+emptied_by : (b : ℕ) (n : Name) (o : Option Directory)
+    → sum_by (pair_uses b) (unwrap_or (option_map (emptied_in n) (option_map outlined_directory o)) [])
+    ≡ sum_by (pair_uses b) (unwrap_or (option_map (emptied_in n) o) [])
+emptied_by b n None = refl
+emptied_by b n (Some d) = ap (sum_by (pair_uses b)) (emptied_outlined n d.more) ∙ parts_same b (emptied_in n d)
+
+emptied_among_same : (v : Volume) (h : Option (Pair × Name)) (b : ℕ)
+    → sum_by (pair_uses b) (emptied_parts (outlined v) h) ≡ sum_by (pair_uses b) (emptied_parts v h)
+emptied_among_same v None b = refl
+emptied_among_same v (Some h) b =
+    ap (λ (o : Option Directory). sum_by (pair_uses b) (unwrap_or (option_map (emptied_in h.1) o) []))
+    (find_directory_outlined h.0 v.directories)
+    ∙ emptied_by b h.1 (find (begins_at h.0) v.directories)
+
+emptied_same : (v : Volume) (p : Path) (b : ℕ) → emptied_uses (outlined v) p b ≡ emptied_uses v p b
+emptied_same v p b = ap (λ (h : Option (Pair × Name)). sum_by (pair_uses b) (emptied_parts (outlined v) h)) (parent_outlined v p)
+    ∙ emptied_among_same v (parent_of v p) b
+
 freed_same : (v : Volume) (c : Command) (b : ℕ) → freed_uses (outlined v) c b ≡ freed_uses v c b
 freed_same v (Mkdir p) b = refl
 freed_same v (Put p bytes) b = content_same v p b
-freed_same v (Rm p) b = ap (λ (n : ℕ). n + target_uses (outlined v) p b) (content_same v p b)
-    ∙ ap (λ (n : ℕ). content_uses v p b + n) (target_uses_same v p b)
-freed_same v (Mv p q) b = refl
+freed_same v (Rm p) b = omega (arith, content_same v p b, target_uses_same v p b, emptied_same v p b)
+freed_same v (Mv p q) b = emptied_same v p b
 freed_same v (SetAttr p k value) b = refl
 freed_same v (RmAttr p k) b = refl
 freed_same v (Grow n) b = refl

@@ -9,15 +9,15 @@ use Rattle.lfs_fs.specs.Entry.{Body, Directory_at, Entry, target}
 use Rattle.lfs_fs.specs.Directory.{Part, Directory, parts, begins_at, thread}
 use Rattle.lfs_fs.specs.Volume.{Volume}
 use Rattle.lfs_fs.specs.Tree.{entry_at}
-use Rattle.lfs_command.specs.DirectoryEdit.{link_in, unlink_in, change_in, touch_last, absorb}
+use Rattle.lfs_command.specs.DirectoryEdit.{link_in, has_only, unlink_in, change_in, touch_last, absorb}
 use Rattle.lfs_command.specs.ThreadEdit.{in_directory, link, unlink, change, add_after, take_out, drop_directory, touch_first}
 use Rattle.lfs_command.specs.Command.{Command, Mkdir, Put, Rm, Mv, SetAttr, RmAttr, Grow}
 use Rattle.lfs_command.specs.Supplies.{Supplies, new_body}
 use Rattle.lfs_command.specs.Parent.{parent_of}
 use Rattle.lfs_command.specs.Edited.{with_body, with_entry_attributes, renamed, new_entry, empty_directory, set_attributes, make_directory}
 use Rattle.lfs_command.specs.Edited.{put_file, drop_target, remove_entry, move_entry, edited}
-use Rattle.lfs_law.proofs.DirectoryEdits.{pairs, keeps_link, keeps_unlink, keeps_change, keeps_touch_last, pairs_absorb}
-use Rattle.lfs_law.proofs.InDirectory.{KeepsAllParts}
+use Rattle.lfs_law.proofs.DirectoryEdits.{KeepsParts, pairs, keeps_link, dropped, pairs_unlink, sum_dropped, keeps_change}
+use Rattle.lfs_law.proofs.DirectoryEdits.{keeps_touch_last, pairs_absorb}
 use Rattle.lfs_law.proofs.OutlineRoom.{sum_over}
 
 -- a sum over the pairs of parts
@@ -39,6 +39,10 @@ same_pairs g ps qs same =
 
 -- ---- edits of directories
 
+-- f leaves each directory's pairs and delta
+abbrev KeepsAllParts : (Directory → Directory) → Type 0
+KeepsAllParts f = (d : Directory) → KeepsParts d (f d)
+
 in_by : (g : Pair → ℕ) (f : Directory → Directory) → KeepsAllParts f → (d : Directory) (t : Bool)
     → parts_total g (parts (if t then f d else d)) ≡ parts_total g (parts d)
 in_by g f keeps d true = same_pairs g (parts (f d)) (parts d) (keeps d).pairs
@@ -59,8 +63,28 @@ in_total g k f keeps (d ∷ ds) =
 pub link_total : (g : Pair → ℕ) (k : Pair) (e : Entry) (ds : List Directory) → total g (link k e ds) ≡ total g ds
 link_total g k e ds = in_total g k (link_in e) (keeps_link e) ds
 
-unlink_total : (g : Pair → ℕ) (k : Pair) (n : Name) (ds : List Directory) → total g (unlink k n ds) ≡ total g ds
-unlink_total g k n ds = in_total g k (unlink_in n) (keeps_unlink n) ds
+-- where later parts leave it is less
+unlink_parts : (g : Pair → ℕ) (n : Name) (d : Directory) → parts_total g (parts (unlink_in n d)) ≤ parts_total g (parts d)
+unlink_parts g n d = omega (
+  arith,
+  same_pairs g (parts (unlink_in n d)) (parts (dropped n d)) (pairs_unlink n d),
+  sum_dropped (λ (p : Part). g p.pair) (λ delta p. refl) (has_only n) d.first d.more,
+)
+
+unlink_total : (g : Pair → ℕ) (k : Pair) (n : Name) (ds : List Directory) → total g (unlink k n ds) ≤ total g ds
+unlink_total g k n [] = omega arith
+unlink_total g k n (d ∷ ds) =
+    omega (
+      arith,
+      total_cons g (if begins_at k d then unlink_in n d else d) (unlink k n ds),
+      total_cons g d ds,
+      by (begins_at k d),
+      unlink_total g k n ds,
+    )
+  where
+    by : (t : Bool) → parts_total g (parts (if t then unlink_in n d else d)) ≤ parts_total g (parts d)
+    by true = unlink_parts g n d
+    by false = omega arith
 
 change_total : (g : Pair → ℕ) (k : Pair) (n : Name) (f : Entry → Entry) (ds : List Directory) → total g (change k n f ds) ≡ total g ds
 change_total g k n f ds = in_total g k (change_in n f) (keeps_change n f) ds

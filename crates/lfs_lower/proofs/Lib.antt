@@ -1,3 +1,4 @@
+pub mod BeginningLemmas
 pub mod ChainsOutside
 pub mod FreshPairs
 pub mod GatheredParts
@@ -18,6 +19,5 @@ pub mod PairsAlong
 pub mod PartsPut
 pub mod ReadTags
 pub mod SeenLoops
-pub mod SizeLemmas
 pub mod SpelledBlocks
 pub mod StaysOne

@@ -1,8 +1,8 @@
 pub mod Commits
+pub mod Told
 pub mod Version
 pub mod Seen
 pub mod Words
-pub mod Size
 pub mod Spelled
 pub mod Lowered
 pub mod Along
@@ -17,3 +17,4 @@ pub mod Joining
 pub mod ByDevice
 pub mod ReadAs
 pub mod Within
+pub mod Beginning

@@ -1,37 +1,16 @@
 -- The disk version of commits that version 2.0 doesn't read, where a later version takes their block for the live one (own).
-use Rattle.std.specs.Prelude.{ℕ, ◌*◌, ◌==◌, ◌||◌, nat_lt, Bool, true, false, List, [], ◌∷◌, length, take, drop, Option, Some, None, option_map}
+use Rattle.std.specs.Prelude.{ℕ, ◌*◌, ◌==◌, ◌||◌, nat_lt, List, length, take, drop, Option, Some, None, option_map}
 use Rattle.std.specs.Prelude.{if◌then◌else◌}
 use Rattle.std.specs.Option.{option_and_then}
-use Rattle.std.specs.Int.{w32, from_le_bytes}
 use Rattle.lfs_block.specs.Checksum.{crc}
-use Rattle.lfs_tag.specs.Commit.{Item, Commit}
+use Rattle.lfs_tag.specs.Commit.{Commit}
 use Rattle.lfs_tag.specs.LogSeen.{log_seen}
 use Rattle.lfs_meta.specs.LiveBlock.{revision, is_later}
 use Rattle.lfs_lower.specs.Commits.{commits_from}
-use Rattle.lfs_lower.specs.declared.seen_block.Stated.{Stated}
+use Rattle.lfs_lower.specs.Told.{stated_in, version_told}
 use Rattle.lfs_lower.specs.declared.seen_block.BlockSeen.{BlockSeen}
 use Rattle.lfs_lower.specs.declared.seen_pair.PairSeen.{PairSeen}
 use Rattle.lfs_lower.specs.declared.version.StatedVersion.{StatedVersion}
-
--- ---- what commits state
-
--- the version that a tag states, or the one before it: that of a superblock is an inline struct of 24 bytes of entry 0, which
--- begins with the version
-abbrev pub stated_by : Option ℕ → Item → Option ℕ
-stated_by so_far t = if t.word == 0x20100018 then Some (from_le_bytes w32 t.content) else so_far
-
--- the one that tags state last
-abbrev pub last_stated : Option ℕ → List Item → Option ℕ
-last_stated so_far [] = so_far
-last_stated so_far (t ∷ ts) = last_stated (stated_by so_far t) ts
-
--- whether there are commits, and the version that they state last
-abbrev pub stated_behind : Bool → Option ℕ → List Commit → Stated
-stated_behind is_there so_far [] = record { is_there = is_there; version = so_far }
-stated_behind is_there so_far (c ∷ cs) = stated_behind true (last_stated so_far c.tags) cs
-
-abbrev pub stated_in : List Commit → Stated
-stated_in commits = stated_behind false None commits
 
 -- ---- blocks
 
@@ -85,13 +64,13 @@ other_version (Some version) = if version == 0x20000 then None else Some version
 -- the version, other than 2.0, that is stated last by commits which version 2.0 doesn't read, in the block that a later version takes
 -- for the live one; none where version 2.0 reads no commit of either block, which isn't passed over in silence
 abbrev pub version_behind : PairSeen → Option ℕ
-version_behind pair = if pair.is_read then other_version pair.live.unread.version else None
+version_behind pair = if pair.is_read then other_version (version_told pair.live.unread.told) else None
 
 -- the same where version 2.0 reads no commit of either block, with the number of that block
 abbrev pub version_alone : PairSeen → Option StatedVersion
 version_alone pair =
     if pair.is_read then None
-    else option_map (λ version. record { block = pair.live.number; version = version }) (other_version pair.live.unread.version)
+    else option_map (λ version. record { block = pair.live.number; version = version }) (other_version (version_told pair.live.unread.told))
 
 -- that of the first two blocks of an image
 abbrev pub later_version : List ℕ → ℕ → Option ℕ

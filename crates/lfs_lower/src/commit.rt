@@ -9,7 +9,8 @@ ghost use Rattle.lfs_lower.specs.Kept.{IsCommitPushed, IsCommitRead, IsPushed, i
 ghost use Rattle.lfs_lower.specs.Spelled.{lowered_header, tags_lowered};
 
 use crate::header::lower_header;
-use crate::seen_commit::{SUPERBLOCK_WORD, closes};
+use crate::seen_commit::closes;
+use crate::told::SUPERBLOCK_WORD;
 use lfs_block::crc32;
 use lfs_tag::{CHECKSUM, Committed, Edit, EditData, Tag, closed, tag_at};
 use std::alloc::AllocError;

@@ -3,6 +3,7 @@
 //! version 2.0; and the image with which bytes begin.
 #![tactic(auto)]
 
+mod beginning;
 mod block;
 mod by_device;
 mod commit;
@@ -15,12 +16,13 @@ mod lowering_all;
 mod seen_block;
 mod seen_commit;
 mod seen_pair;
-mod size;
 mod superblocks;
+mod told;
 mod version;
 mod within;
 mod words;
 
+pub use beginning::{begins_with, log_superblock, size_of};
 pub use by_device::read_by_device;
 pub use joining::join;
 pub use laws::{
@@ -30,7 +32,7 @@ pub use laws::{
 pub use lowering::lower;
 pub use lowering_all::lower_all;
 pub use seen_commit::closes;
-pub use size::{MOST_FRONT, size_stated};
+pub use told::Superblock;
 pub use version::{StatedVersion, later_version, unread_version};
 pub use within::{read_as, read_within};
 pub use words::superblock_words;

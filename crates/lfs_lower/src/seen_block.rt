@@ -2,19 +2,21 @@
 
 ghost use Rattle.std.specs.Prelude.{◌≡◌, ◌≤◌, length};
 ghost use Rattle.lfs_lower.specs.Commits.{commits_from};
-ghost use Rattle.lfs_lower.specs.Version.{block_seen, stated_in};
+ghost use Rattle.lfs_lower.specs.Told.{stated_in};
+ghost use Rattle.lfs_lower.specs.Version.{block_seen};
 
 use crate::seen_commit::commit_at;
+use crate::told::Told;
 use lfs_block::crc32;
 use lfs_tag::{CHECKSUM_START, Log};
 
-/// What commits that version 2.0 doesn't read state.
+/// What commits state.
 #[derive(Clone, Copy)]
 pub(crate) struct Stated {
     /// Whether there are any.
     pub(crate) is_there: bool,
-    /// The disk version that they state last.
-    pub(crate) version: Option<u32>,
+    /// What their tags tell.
+    pub(crate) told: Told,
 }
 
 /// A block as both versions read it.
@@ -30,20 +32,20 @@ pub(crate) struct BlockSeen {
 
 /// What the commits at the front of `bytes` state, behind the word `prev`, where `sum` is the checksum of what the first covers
 /// before them.
-fn stated_from(mut sum: u32, mut prev: u32, bytes: &[u8]) -> Stated
+pub(crate) fn stated_from(mut sum: u32, mut prev: u32, bytes: &[u8]) -> Stated
     ensures { result ≡ stated_in (commits_from sum prev bytes.now) }
 {
     let mut rest = bytes;
-    let mut version = None;
+    let mut told = Told::nothing();
     let mut is_there = false;
-    while let Some(commit) = commit_at(sum, prev, version, rest) {
+    while let Some(commit) = commit_at(sum, prev, told, rest) {
         sum = CHECKSUM_START;
         prev = commit.next;
-        version = commit.version;
+        told = commit.told;
         rest = commit.rest;
         is_there = true;
     }
-    Stated { is_there, version }
+    Stated { is_there, told }
 }
 
 /// A block of a pair, by its number there, as both versions read it.

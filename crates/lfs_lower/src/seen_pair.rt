@@ -17,7 +17,7 @@ pub(crate) struct PairSeen {
 }
 
 /// Whether revision `a` comes after `b`, where revisions are counted around 2^32.
-fn is_later(a: u32, b: u32) -> bool
+pub(crate) fn is_later(a: u32, b: u32) -> bool
     ensures { result ≡ is_later a b }
 {
     let ahead = a.wrapping_sub(b);

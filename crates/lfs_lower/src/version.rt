@@ -36,7 +36,7 @@ pub fn later_version(image: &[u8], size: u32) -> Option<u32>
 {
     let root = root_seen(image, size)?;
     if root.is_read {
-        other_version(root.live.unread.version)
+        other_version(root.live.unread.told.version())
     } else {
         None
     }
@@ -54,7 +54,7 @@ pub fn unread_version(image: &[u8], size: u32) -> Option<StatedVersion>
     if root.is_read {
         return None;
     }
-    let version = other_version(root.live.unread.version)?;
+    let version = other_version(root.live.unread.told.version())?;
     Some(StatedVersion {
         block: root.live.number,
         version,

@@ -1,5 +1,3 @@
-pub mod PlaceLemmas
-pub mod FoundLemmas
 pub mod FindingLemmas
 pub mod StopLemmas
 pub mod HostFolderLemmas

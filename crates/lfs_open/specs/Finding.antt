@@ -8,9 +8,9 @@ use Rattle.lfs_host.specs.Files.{ReadsFile}
 use Rattle.lfs_host.specs.Scene.{HasRefused, KeepsInput, Scene}
 use Rattle.lfs_request.specs.declared.fault.Fault.{Fault}
 use Rattle.lfs_request.specs.declared.fault.Fault.TheVariants.{CannotWrite, Refused}
-use Rattle.lfs_open.specs.Found.{AreFoundFrom}
+use Rattle.lfs_find.specs.Found.{AreFound}
 use Rattle.lfs_open.specs.FoundText.{found_text}
-use Rattle.lfs_open.specs.declared.found.Found.{Found}
+use Rattle.lfs_find.specs.declared.found.Found.{Found}
 
 -- the most bytes of a file that are looked at: as many as a file may have
 abbrev pub most_flash : ℕ
@@ -27,7 +27,7 @@ PrintsText _ old new text = ⊥
 
 -- what is found in the bytes of a file is printed, a line each
 abbrev pub ListsFound : List ℕ → Scene → Scene → Option Fault → Type 0
-ListsFound bytes old new fault = (found : List Found) × AreFoundFrom bytes 0 found × PrintsText fault old new (found_text found)
+ListsFound bytes old new fault = (found : List Found) × AreFound bytes found × PrintsText fault old new (found_text found)
 
 -- how looking for images in a file ends, by its fault: it isn't read, or memory is wanting, and nothing is printed; or what is found in its
 -- bytes is listed. Nothing else is changed

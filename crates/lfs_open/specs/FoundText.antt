@@ -3,9 +3,9 @@ use Rattle.std.specs.Prelude.{ℕ, ◌*◌, ◌/◌, ◌%◌, false, List, ◌++
 use Rattle.std.specs.Fmt.{decimal, digits}
 use Rattle.lfs_block.specs.Faults.{image_fault_number, mount_fault_number}
 use Rattle.lfs_open.specs.FaultName.{image_fault_name, mount_fault_name}
-use Rattle.lfs_open.specs.declared.found.Found.{Found}
-use Rattle.lfs_open.specs.declared.unmounted.Unmounted.{Unmounted}
-use Rattle.lfs_open.specs.declared.unmounted.Unmounted.TheVariants.{Image, Mount}
+use Rattle.lfs_find.specs.declared.found.Found.{Found}
+use Rattle.lfs_find.specs.declared.unmounted.Unmounted.{Unmounted}
+use Rattle.lfs_find.specs.declared.unmounted.Unmounted.TheVariants.{Image, Mount}
 
 -- a fault is said by its number and its name
 abbrev pub fault_text : ℕ → List ℕ → List ℕ
@@ -41,7 +41,7 @@ abbrev pub found_line : Found → List ℕ
 found_line f =
     at_text f.place.at
     ++ (codes "  version " ++ (version_text f.place.version
-    ++ (codes "  " ++ (extent_text f.place.size f.count
+    ++ (codes "  " ++ (extent_text f.place.size f.place.count
     ++ (codes "  " ++ (verdict_text f.fault ++ codes "\n"))))))
 
 -- the lines of all

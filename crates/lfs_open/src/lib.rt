@@ -4,10 +4,7 @@
 
 mod extracting;
 mod fault_name;
-mod finding;
-mod found;
 mod host_folder;
-mod judging;
 mod later;
 mod least;
 mod line_moves;
@@ -15,17 +12,12 @@ mod lines;
 mod looking;
 mod new_image;
 mod opened;
-mod place;
-mod places;
 mod salvaging;
 mod sending;
 mod sizing;
-mod unmounted;
 mod viewing;
 
 pub use extracting::extracted;
-pub use finding::find_images;
-pub use found::Found;
 pub use host_folder::{folder_of, rows_to_pack};
 pub use later::pass;
 pub use least::{counted, counted_for};
@@ -33,9 +25,7 @@ pub use line_moves::{commands_of, moves_of, read_lines};
 pub use looking::list_images;
 pub use new_image::with_new_image;
 pub use opened::{Opened, open_source};
-pub use place::Place;
 pub use salvaging::salvaged;
 pub use sending::send_found;
 pub use sizing::stated_size;
-pub use unmounted::Unmounted;
 pub use viewing::{asked_by, read_by};

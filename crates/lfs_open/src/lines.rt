@@ -4,8 +4,7 @@ ghost use Rattle.std.specs.Prelude.{◌≡◌, ◌++◌, IfOk, OnOk, string_byte
 ghost use Rattle.lfs_open.specs.FoundText.{at_text, extent_text, fault_text, found_line, unmounted_text, verdict_text, version_text};
 
 use crate::fault_name::{image_fault_name, mount_fault_name};
-use crate::found::Found;
-use crate::unmounted::Unmounted;
+use lfs_find::{Found, Unmounted};
 use std::alloc::{AllocError, Global};
 
 /// What is said of a fault: its number and its name.
@@ -65,7 +64,7 @@ fn found_line(alloc: Global, found: &Found) -> Result<String, AllocError>
 {
     let at = at_text(alloc, found.place.at)?;
     let version = version_text(alloc, found.place.version)?;
-    let extent = extent_text(alloc, found.place.size, found.count)?;
+    let extent = extent_text(alloc, found.place.size, found.place.count)?;
     let verdict = verdict_text(alloc, found.fault)?;
     format!(in alloc; "{at}  version {version}  {extent}  {verdict}\n")
 }

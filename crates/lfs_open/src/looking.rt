@@ -8,11 +8,10 @@ ghost use Rattle.lfs_open.specs.FoundText.{found_text};
 ghost use Rattle.lfs_host.specs.Files.{ReadsFile};
 ghost use Rattle.lfs_host.specs.Scene.{KeepsAll, KeepsInput};
 
-use crate::finding::find_images;
-use crate::found::Found;
 use crate::sending::send_found;
 use lfs_command::Refusal;
 use lfs_exchange::{Output, fault_of_reading, flush};
+use lfs_find::{Found, find_images};
 use lfs_host::Host;
 use lfs_listing::Unsent;
 use lfs_request::Fault;

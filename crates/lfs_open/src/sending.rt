@@ -5,8 +5,8 @@ ghost use Rattle.std.specs.Result.{result_err};
 ghost use Rattle.lfs_listing.specs.Unsent.{SendsListing, blames_sink};
 ghost use Rattle.lfs_open.specs.FoundText.{found_text};
 
-use crate::found::Found;
 use crate::lines::append_found;
+use lfs_find::Found;
 use lfs_host::{Sink, send};
 use lfs_listing::Unsent;
 use std::alloc::{AllocError, Global};

@@ -5,14 +5,16 @@ ghost use Rattle.lfs_host.specs.Scene.{KeepsAll};
 ghost use Rattle.lfs_open.specs.Stated.{IsStatedSize};
 
 use lfs_host::{Host, ReadFault};
-use lfs_lower::{MOST_FRONT, size_stated};
+use lfs_lower::size_of;
 use std::alloc::{AllocError, Global};
 
 /// The block size where none is stated, in bytes.
 const USUAL_SIZE: u32 = 4_096;
+/// The most bytes that an image has.
+const MOST_IMAGE: u64 = 67_108_864;
 
-/// The size of a block, in bytes, that an image states which begins at a place of its file, in its first block, or else in its second one;
-/// 4,096 where neither does, and where the host refuses to read it. Nothing is changed. Takes memory.
+/// The size of a block, in bytes, of the image that begins at a place of its file: the least one that the last superblock of an image of
+/// such blocks states; 4,096 where none does, and where the host refuses to read it. Nothing is changed. Takes memory.
 pub fn stated_size<H: Host>(
     alloc: Global,
     host: &mut H,
@@ -22,8 +24,8 @@ pub fn stated_size<H: Host>(
     ensures stated { IfOk result (IsStatedSize (H.known host.old) (H.known host.new) image.now place) }
     ensures kept { KeepsAll (H.known host.old) (H.known host.new) }
 {
-    match host.read(alloc, image, place, MOST_FRONT) {
-        Ok(front) => Ok(size_stated(&front).unwrap_or(USUAL_SIZE)),
+    match host.read(alloc, image, place, MOST_IMAGE) {
+        Ok(bytes) => Ok(size_of(&bytes).unwrap_or(USUAL_SIZE)),
         Err(ReadFault::CannotRead) => Ok(USUAL_SIZE),
         Err(ReadFault::Memory) => Err(AllocError),
     }

@@ -1,5 +1,6 @@
 //! The words of the command line by which an image is read as a device does.
 
+use lfs_history::Move;
 use lfs_request::{Operation, Query, Request};
 
 /// The disk version that is read with them, with its major number in the upper half.
@@ -29,4 +30,14 @@ pub(crate) fn hint_of(request: &Request<'_>) -> Option<&'static str> {
 /// The words of a hint, where a disk version is read with them.
 pub(crate) fn hint_at(version: u32, hint: Option<&'static str>) -> Option<&'static str> {
     if version == VERSION { hint } else { None }
+}
+
+/// Whether the command that is asked for takes `--older`: it carries no command out on the image.
+pub(crate) fn takes_older(request: &Request<'_>) -> bool {
+    !matches!(
+        request.operation,
+        Operation::Tree { .. }
+            | Operation::Batch { .. }
+            | Operation::Change(Move::Do { .. } | Move::Together { .. })
+    )
 }

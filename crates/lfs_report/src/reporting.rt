@@ -7,7 +7,7 @@ ghost use Rattle.lfs_report.specs.Stop.{stopped_by};
 use crate::context::Context;
 use crate::finding::Finding;
 use crate::geometry::{report_count, report_limit};
-use crate::hint::hint_of;
+use crate::hint::{hint_of, takes_older};
 use crate::last_name::last_name;
 use crate::line::{Piece, report_pieces, report_with_blocks, report_words};
 use crate::no_path::report_no_path;
@@ -346,7 +346,9 @@ fn report_statement<H: Host>(
     match statement {
         Statement::Stated(place, stated) => report_stated(host, image, hint, place, stated),
         Statement::Unread(stated) => report_unread(host, image, hint, stated),
-        Statement::Later(version) => report_changed(host, image, hint, version),
+        Statement::Later(version) => {
+            report_changed(host, image, hint, takes_older(request), version)
+        }
         Statement::Expanded => report_expanded(host, image, hint),
         Statement::Length(len, size) => report_part(host, image, len, size),
         Statement::Path(note) => report_note(host, request, note),

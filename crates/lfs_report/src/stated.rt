@@ -5,20 +5,11 @@ use crate::path_note::PathNote;
 use byteorder::{ByteOrder, LittleEndian};
 use lfs_block::{ImageFault, MountFault};
 use lfs_fs::VERSION;
-use lfs_lower::{StatedVersion, superblock_words, unread_version};
+use lfs_lower::{
+    StatedVersion, Superblock, begins_with, size_of, superblock_words, unread_version,
+};
 use lfs_request::{Fault, OtherFault};
 use lfs_texts::Flaw;
-
-/// What a superblock states: the disk version, the size of a block in bytes, and the number of blocks.
-#[derive(Clone, Copy)]
-pub struct Stated {
-    /// The disk version, with its major number in the upper half.
-    pub version: u32,
-    /// The size of a block, in bytes.
-    pub size: u32,
-    /// The number of blocks.
-    pub count: u32,
-}
 
 /// What is seen of bytes that are read as an image, whatever they are.
 #[derive(Clone, Copy)]
@@ -27,8 +18,8 @@ pub struct Sight {
     pub size: u32,
     /// How many bytes there are.
     pub len: usize,
-    /// What their first block states, where it begins as a superblock does.
-    pub stated: Option<Stated>,
+    /// What their superblock states, or else what their first block does, where it begins as one with a superblock does.
+    pub stated: Option<Superblock>,
     /// The disk version that is stated where version 2.0 reads no commit.
     pub unread: Option<StatedVersion>,
 }
@@ -49,7 +40,7 @@ impl Sight {
         Sight {
             size,
             len: bytes.len(),
-            stated: stated_in(bytes),
+            stated: stated_in(size, bytes),
             unread: unread_version(bytes, size),
         }
     }
@@ -72,7 +63,7 @@ pub enum StatedPlace {
 #[derive(Clone, Copy)]
 pub enum Statement {
     /// What an image states somewhere.
-    Stated(StatedPlace, Stated),
+    Stated(StatedPlace, Superblock),
     /// The disk version that a block states of which version 2.0 reads no commit.
     Unread(StatedVersion),
     /// The disk version of a later commit, for which the image is refused.
@@ -134,17 +125,18 @@ fn statement_of_image(fault: MountFault, seen: Sight) -> Option<Statement> {
     Some(Statement::Stated(place_of(fault, stated)?, stated))
 }
 
-/// Whether an image may be refused since a device has expanded its superblock.
+/// Whether an image may be refused since a device has expanded its superblock: none is found, or one with blocks of this size.
 fn may_be_expanded(fault: MountFault, seen: Sight) -> bool {
-    match fault {
-        MountFault::SuperblockElsewhere => true,
-        MountFault::NoSuperblock => seen.stated.is_none(),
+    match (fault, seen.stated) {
+        (MountFault::SuperblockElsewhere, _) => true,
+        (MountFault::NoSuperblock, None) => true,
+        (MountFault::NoSuperblock, Some(stated)) => stated.size == seen.size,
         _ => false,
     }
 }
 
 /// Which of what the first block states is told, and as what; nothing where a fault has another cause.
-fn place_of(fault: MountFault, stated: Stated) -> Option<StatedPlace> {
+fn place_of(fault: MountFault, stated: Superblock) -> Option<StatedPlace> {
     match fault {
         MountFault::Geometry => Some(StatedPlace::Superblock),
         MountFault::Version => Some(StatedPlace::SuperblockVersion),
@@ -154,15 +146,29 @@ fn place_of(fault: MountFault, stated: Stated) -> Option<StatedPlace> {
     }
 }
 
-/// What the superblock at the front of block 0 states, whatever the size of a block is; nothing where there is none.
-pub(crate) fn stated_in(image: &[u8]) -> Option<Stated> {
+/// What the superblock of an image states: in blocks of `size` bytes, or else of the size that it has; where its commits state nothing,
+/// what stands at the front of block 0.
+fn stated_in(size: u32, image: &[u8]) -> Option<Superblock> {
+    match begins_with(size, image) {
+        Some(stated) => Some(stated),
+        None => by_size(image).or(stated_in_front(image)),
+    }
+}
+
+/// What the superblock of an image states, whatever the size of its blocks is.
+fn by_size(image: &[u8]) -> Option<Superblock> {
+    begins_with(size_of(image)?, image)
+}
+
+/// What stands at the front of block 0, where it begins as a superblock does.
+fn stated_in_front(image: &[u8]) -> Option<Superblock> {
     stated_of(superblock_words(image)?)
 }
 
 /// What the first words of a superblock's struct state; nothing where there are too few.
-pub(crate) fn stated_of(words: &[u8]) -> Option<Stated> {
+pub(crate) fn stated_of(words: &[u8]) -> Option<Superblock> {
     let words = words.get(..12)?;
-    Some(Stated {
+    Some(Superblock {
         version: LittleEndian::read_u32(&words[..4]),
         size: LittleEndian::read_u32(&words[4..8]),
         count: LittleEndian::read_u32(&words[8..12]),

@@ -4,9 +4,9 @@ ghost use Rattle.std.specs.Prelude.{◌≡◌};
 
 use crate::hint::hint_at;
 use crate::line::{Piece, report_pieces, report_with_blocks, report_with_version};
-use crate::stated::{Stated, StatedPlace};
+use crate::stated::StatedPlace;
 use lfs_host::Host;
-use lfs_lower::StatedVersion;
+use lfs_lower::{StatedVersion, Superblock};
 
 /// What is told in front of the disk version that the first block states.
 const FIRST_BLOCK: &str = "its first block states disk version ";
@@ -20,7 +20,7 @@ pub(crate) fn report_stated<H: Host>(
     image: &str,
     hint: Option<&'static str>,
     place: StatedPlace,
-    stated: Stated,
+    stated: Superblock,
 )
     ensures kept { H.known host.new ≡ H.known host.old }
 {
@@ -95,35 +95,43 @@ fn report_stated_version<'a, H: Host>(
     }
 }
 
-/// Tells that a device has changed the image of this name, for which it is refused.
+/// What is told of the state before a later commit, where the command that is asked for may take it.
+const OLDER: &str = "--older goes on with the state before that";
+
+/// Tells that a device has changed the image of this name, for which it is refused; by which words it is read, and whether the command may
+/// take the state before that (`takes_older`).
 pub(crate) fn report_changed<H: Host>(
     host: &mut H,
     image: &str,
     hint: Option<&'static str>,
+    takes_older: bool,
     version: u32,
 )
     ensures kept { H.known host.new ≡ H.known host.old }
 {
-    match hint_at(version, hint) {
-        Some(hint) => report_pieces(
-            host,
-            image,
-            &[
-                Piece::Text(CHANGED),
-                Piece::Version(version),
-                Piece::Text(", which is not read: "),
-                Piece::Text(hint),
-                Piece::Text(" reads it, --older goes on with the state before that"),
-            ],
-        ),
-        None => report_with_version(
-            host,
-            image,
-            CHANGED,
-            version,
-            ", which is not read; --older goes on with the state before that",
-        ),
-    }
+    let (colon, hint, reads) = match hint_at(version, hint) {
+        Some(hint) => (": ", hint, " reads it"),
+        None => ("", "", ""),
+    };
+    let (stop, older) = match (takes_older, hint.is_empty()) {
+        (false, _) => ("", ""),
+        (true, true) => ("; ", OLDER),
+        (true, false) => (", ", OLDER),
+    };
+    report_pieces(
+        host,
+        image,
+        &[
+            Piece::Text(CHANGED),
+            Piece::Version(version),
+            Piece::Text(", which is not read"),
+            Piece::Text(colon),
+            Piece::Text(hint),
+            Piece::Text(reads),
+            Piece::Text(stop),
+            Piece::Text(older),
+        ],
+    );
 }
 
 /// Tells by which words an image is read whose superblock a device has expanded, where there are any.

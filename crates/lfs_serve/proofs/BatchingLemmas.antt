@@ -1,5 +1,5 @@
 -- The steps of a script, and how they end.
-use Rattle.std.proofs.Common.{◌≡◌, ◌⊎◌, ◌<◌, ℕ, Bor, Bool, true, List, [], ◌∷◌, Option}
+use Rattle.std.proofs.Common.{◌≡◌, ◌⊎◌, ◌&&◌, ◌<◌, ℕ, Bor, Bool, true, List, [], ◌∷◌, Option}
 use Rattle.std.proofs.Common.{length, map, refl, sym, ap, subst, ◌∙◌, arith, inl, inr}
 use Rattle.std.specs.Global.{Vec}
 use Rattle.std.specs.List.{AllByRecursion, AllZip}
@@ -18,6 +18,7 @@ use Rattle.lfs_exchange.specs.Handing.{IsUnread}
 use Rattle.lfs_texts.specs.Steps.{Keeps}
 use Rattle.lfs_texts.specs.declared.script_line.ScriptLine.{ScriptLine}
 use Rattle.lfs_request.specs.declared.operation.Operation.TheVariants as operation
+use Rattle.lfs_step.specs.Step.{may_take_older}
 use Rattle.lfs_step.specs.declared.step.Step.TheVariants.{Change}
 use Rattle.lfs_exchange.specs.StepKind.{kind_of_steps}
 use Rattle.lfs_open.specs.LineMoves.{HandsLine, commands_in, moves_said}
@@ -115,7 +116,7 @@ pub ends_from : (becomes : List change.Move → Type 0) (why : Fault → Type 0)
     → EndsLines becomes why older size name old new fault
 ends_from becomes why older size name old mid new fault kept ends =
     elim ends [
-      | inl did ↦ inl (did.0, did.1, step_from (Change did.0) (as_it_is older) size name mid old new fault kept.0 kept.1 did.2)
+      | inl did ↦ inl (did.0, did.1, step_from (Change did.0) (as_it_is (may_take_older (Change did.0) && older)) size name mid old new fault kept.0 kept.1 did.2)
       | inr not ↦ inr ((not.0.0 ∙ kept.0, not.0.1 ∙ kept.1), not.1)
     ]
 
@@ -141,7 +142,7 @@ script_ends file text keep one older size name old mid new ended fault is reads 
       | inl did ↦ inl (
         Change did.0,
         from_mid file text keep one old mid (map step_of did.0.now) reads kept.0 did.1,
-        step_from (Change did.0) (as_it_is older) size name mid old new fault kept.0 kept.1 did.2,
+        step_from (Change did.0) (as_it_is (may_take_older (Change did.0) && older)) size name mid old new fault kept.0 kept.1 did.2,
       )
       | inr not ↦
           inr (

@@ -1,5 +1,5 @@
 -- Where lists of requests lead.
-use Rattle.std.proofs.Common.{◌≡◌, ◌⊎◌, ◌<◌, ◌≤◌, ◌+◌, ℕ, Bor, Bool, List, [], ◌∷◌, ◌++◌, Option, Some}
+use Rattle.std.proofs.Common.{◌≡◌, ◌⊎◌, ◌&&◌, ◌<◌, ◌≤◌, ◌+◌, ℕ, Bor, Bool, List, [], ◌∷◌, ◌++◌, Option, Some}
 use Rattle.std.proofs.Common.{None, length, refl, sym, ap, subst, ◌∙◌, arith, inl, inr, length-append}
 use Rattle.std.specs.Prelude.{codes, map}
 use Rattle.std.proofs.lemmas.List.{take_all}
@@ -29,6 +29,7 @@ use Rattle.lfs_step.proofs.OutcomeLemmas.{AnswersBy}
 use Rattle.lfs_request.specs.Query.{Question}
 use Rattle.lfs_request.specs.View.{start_of, complete_view}
 use Rattle.lfs_request.specs.declared.view.View.{View}
+use Rattle.lfs_step.specs.Step.{may_take_older}
 use Rattle.lfs_step.specs.Runs.{GoesOn, HasGoodRows}
 use Rattle.lfs_exchange.specs.declared.step_kind.StepKind.{StepKind}
 use Rattle.lfs_exchange.specs.declared.step_kind.StepKind.TheVariants.{Makes, Asks, Recounts, Changes, Forgets}
@@ -362,7 +363,7 @@ name_taken fault size name t scene behind old new h is denotes =
 -- as the step that an operation becomes, or before that
 abbrev EndsAsStep : Operation → Bool → ℕ → List ℕ → Scene → Scene → Option Fault → Type 0
 EndsAsStep t older size name old new fault =
-    ((s : Step) × BecomesStep t size old s × EndsStep s (manner_of t older) size name old new fault)
+    ((s : Step) × BecomesStep t size old s × EndsStep s (manner_of t (may_take_older s && older)) size name old new fault)
     ⊎ (KeepsScene old new × ((why : Fault) × (fault ≡ Some why) × IsNotBegun t name old new why))
 
 -- the operation of a question becomes one
@@ -378,16 +379,16 @@ asking query form view size scene (Tree change keep) becomes = absurd becomes
 -- an operation that becomes a step
 step_ends : Laws → (fault : Option Fault) (t : Operation) (older : Bool) (size : ℕ) (name : List ℕ) (scene behind : Scene) (old new : Files) (h : History)
     → ((next : History) → (s : Step) × BecomesStep t size scene s × GoesOn size s h next → OperationGoes size t scene h next)
-    → ((s : Step) → BecomesStep t size scene s → IsReadFor s (manner_of t older))
+    → ((s : Step) → BecomesStep t size scene s → IsReadFor s (manner_of t (may_take_older s && older)))
     → scene.files ≡ Some old → behind.files ≡ Some new → FilesDenote size name old h → EndsAsStep t older size name scene behind fault
     → Ends size name t scene behind fault old new h
 step_ends laws None t older size name scene behind old new h turn for before later denotes (inl (s, becomes, ends)) =
-    let leads = step_leads laws s (manner_of t older) size name scene behind old new h (good_step t size scene s becomes) (for s becomes) before
+    let leads = step_leads laws s (manner_of t (may_take_older s && older)) size name scene behind old new h (good_step t size scene s becomes) (for s becomes) before
     later denotes ends in
     Leads leads.next (turn leads.next (s, becomes, leads.goes)) leads.denotes
 step_ends laws None t older size name scene behind old new h turn for before later denotes (inr (keeps, (why, is, not))) = absurd cc
 step_ends laws (Some fault) t older size name scene behind old new h turn for before later denotes (inl (s, becomes, ends)) =
-    stopped size name t scene behind fault old new h (stop_leaves s (manner_of t older) size name scene behind fault old new h before later denotes ends)
+    stopped size name t scene behind fault old new h (stop_leaves s (manner_of t (may_take_older s && older)) size name scene behind fault old new h before later denotes ends)
 step_ends laws (Some fault) t older size name scene behind old new h turn for before later denotes (inr (keeps, not)) =
     Leads h refl (same_files size name old new h (sym later ∙ keeps.0 ∙ before) denotes)
 

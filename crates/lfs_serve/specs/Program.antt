@@ -1,5 +1,5 @@
 -- What the program does with the files of a host (own).
-use Rattle.std.specs.Prelude.{ℕ, ◌≡◌, ◌⊎◌, ⊤, Bool, true, false, List, [], ◌∷◌, Option, Some, None, map}
+use Rattle.std.specs.Prelude.{ℕ, ◌≡◌, ◌⊎◌, ◌&&◌, ⊤, Bool, true, false, List, [], ◌∷◌, Option, Some, None, map}
 use Rattle.lfs_request.specs.declared.fault.Fault.{Fault}
 use Rattle.lfs_request.specs.declared.fault.Fault.TheVariants.{CannotWrite, Differ}
 use Rattle.lfs_request.specs.declared.manner.Manner.{Manner}
@@ -21,6 +21,7 @@ use Rattle.lfs_open.specs.Extent.{IsExtent}
 use Rattle.lfs_step.specs.declared.step.Step.{Step}
 use Rattle.lfs_step.specs.declared.step.Step.TheVariants as step
 use Rattle.lfs_step.specs.Outcome.{Answers, SendsText, given}
+use Rattle.lfs_step.specs.Step.{may_take_older}
 use Rattle.lfs_exchange.specs.declared.step_kind.StepKind.{StepKind}
 use Rattle.lfs_exchange.specs.declared.step_kind.StepKind.TheVariants.{Makes, Changes, Forgets}
 use Rattle.lfs_exchange.specs.Handing.{HandedBytes, HandsInput, HandsQuestion, IsHanded, IsNotTakenUp, IsOtherUnread, IsUnread, IsUnwritten, reads_input}
@@ -138,14 +139,15 @@ abbrev pub IsNotBegun : Operation → List ℕ → Scene → Scene → Fault →
 IsNotBegun operation name old new why =
     IsNotRead operation old new why ⊎ ((kind : StepKind) × HasKind operation old kind × IsNotTakenUp kind new name why)
 
--- how an operation on an image's file ends: as a folder that is made; as the step that it becomes; or before that, with nothing changed
+-- how an operation on an image's file ends: as a folder that is made; as the step that it becomes, on an older state only if that step may take
+-- one; or before that, with nothing changed
 abbrev pub EndsOperation : Operation → Bool → ℕ → List ℕ → Scene → Scene → Option Fault → Type 0
 EndsOperation (Extract dir path view) older size name old new fault =
     EndsExtract (record { takes_older = older; view = view }) size name path.now dir.now old new fault
 EndsOperation (Salvage dir view) older size name old new fault =
     EndsSalvage (record { takes_older = older; view = view }) size name dir.now old new fault
 EndsOperation operation older size name old new fault =
-    ((step : Step) × BecomesStep operation size old step × EndsStep step (manner_of operation older) size name old new fault)
+    ((step : Step) × BecomesStep operation size old step × EndsStep step (manner_of operation (may_take_older step && older)) size name old new fault)
     ⊎ (KeepsScene old new × ((why : Fault) × (fault ≡ Some why) × IsNotBegun operation name old new why))
 
 -- ---- what is left besides

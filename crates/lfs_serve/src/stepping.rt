@@ -1,6 +1,6 @@
 //! A step on an image's file.
 
-ghost use Rattle.std.specs.Prelude.{◌≡◌, ◌⊎◌, IfErr, IfOk, OnOk, string_bytes};
+ghost use Rattle.std.specs.Prelude.{◌≡◌, ◌⊎◌, ◌&&◌, IfErr, IfOk, OnOk, string_bytes};
 ghost use Rattle.lfs_exchange.specs.Handing.{IsClaimed, IsHanded};
 ghost use Rattle.lfs_serve.specs.StepKind.{kind_of};
 ghost use Rattle.lfs_host.specs.Files.{IsTarget};
@@ -11,7 +11,7 @@ ghost use Rattle.lfs_request.specs.declared.fault.Fault.TheVariants.{CannotWrite
 ghost use Rattle.lfs_report.specs.Stop.{stopped_by};
 ghost use Rattle.lfs_request.specs.View.{start_of};
 ghost use Rattle.lfs_step.specs.Outcome.{Answers, SendsText, given};
-ghost use Rattle.lfs_step.specs.Step.{IsStepInRange};
+ghost use Rattle.lfs_step.specs.Step.{IsStepInRange, may_take_older};
 ghost use Rattle.lfs_open.specs.Blamed.{IsBlamed};
 ghost use Rattle.lfs_serve.specs.Program.{EndsStep, as_it_is};
 
@@ -25,7 +25,19 @@ use lfs_request::{Fault, Manner, Outcome, Request, View};
 use lfs_step::{Step, run};
 use std::alloc::Global;
 
-/// Takes a step on the files of an image that were taken up for it, and writes what it leaves. The image is read as it is. Takes memory.
+/// Whether the state before commits of a later version is taken for the image of a step, if that is asked for.
+fn older_for(step: &Step<'_>, takes_older: bool) -> bool
+    ensures { result ≡ (may_take_older step.now && takes_older) }
+{
+    if step.may_take_older() {
+        takes_older
+    } else {
+        false
+    }
+}
+
+/// Takes a step on the files of an image that were taken up for it, and writes what it leaves. The image is read as it is; the state before
+/// commits of a later version is taken for it only if the step carries no command out. Takes memory.
 pub(crate) fn stepped<H: Host>(
     alloc: Global,
     host: &mut H,
@@ -40,7 +52,7 @@ pub(crate) fn stepped<H: Host>(
     requires claimed { IsClaimed handed.kind (H.known host.old) (string_bytes handed.target) }
     requires handed { IsHanded handed.kind 0 request.now.image.now (H.known host.old)
         (record { image = handed.image.items; journal = handed.journal.items }) }
-    ensures ended { EndsStep step.entry (as_it_is request.now.takes_older) request.now.size request.now.image.now
+    ensures ended { EndsStep step.entry (as_it_is (may_take_older step.entry && request.now.takes_older)) request.now.size request.now.image.now
         (H.known host.old) (H.known host.new) (stopped_by result) }
     ensures typed { (H.known host.new).typed ≡ (H.known host.old).typed }
     ensures made { (H.known host.new).made ≡ (H.known host.old).made }
@@ -49,10 +61,8 @@ pub(crate) fn stepped<H: Host>(
         by_device: false,
         offset: None,
     };
-    let manner = Manner {
-        takes_older: request.takes_older,
-        view,
-    };
+    let takes_older = older_for(&step, request.takes_older);
+    let manner = Manner { takes_older, view };
     stepped_in(alloc, host, request, context, manner, handed, step)
 }
 

@@ -1,6 +1,6 @@
 //! Changes of whole trees in an image's file.
 
-ghost use Rattle.std.specs.Prelude.{◌≡◌, ◌⊎◌, Some, string_bytes};
+ghost use Rattle.std.specs.Prelude.{◌≡◌, ◌⊎◌, Some, false, string_bytes};
 ghost use Rattle.lfs_exchange.specs.Handing.{IsClaimed, IsHanded, IsNotTakenUp};
 ghost use Rattle.lfs_exchange.specs.declared.step_kind.StepKind.TheVariants.{Changes};
 ghost use Rattle.lfs_history.specs.Filling.{bytes_given};
@@ -69,7 +69,7 @@ fn change_taken<H: Host>(
 ) -> Result<(), Stop>
     requires keep { MayKeep keep }
     requires range { IsChangeInRange change }
-    ensures ended { EndsStep (step.Tree change.entry keep) (as_it_is request.now.takes_older) request.now.size request.now.image.now
+    ensures ended { EndsStep (step.Tree change.entry keep) (as_it_is false) request.now.size request.now.image.now
         (H.known host.old) (H.known host.new) (stopped_by result)
         ⊎ (KeepsScene (H.known host.old) (H.known host.new) × ((why : Fault) × (stopped_by result ≡ Some why)
         × IsNotTakenUp Changes (H.known host.new) request.now.image.now why)) }
@@ -129,7 +129,7 @@ fn put_taken<'a, H: Host>(
     requires claimed { IsClaimed handed.kind (H.known host.old) (string_bytes handed.target) }
     requires handed { IsHanded handed.kind 0 request.now.image.now (H.known host.old)
         (record { image = handed.image.items; journal = handed.journal.items }) }
-    ensures ended { EndsStep (step.Tree (Put path.entry bytes.entry) keep) (as_it_is request.now.takes_older) request.now.size
+    ensures ended { EndsStep (step.Tree (Put path.entry bytes.entry) keep) (as_it_is false) request.now.size
         request.now.image.now (H.known host.old) (H.known host.new) (stopped_by result) }
     ensures typed { (H.known host.new).typed ≡ (H.known host.old).typed }
     ensures made { (H.known host.new).made ≡ (H.known host.old).made }

@@ -1,5 +1,10 @@
 //! What is done with an image and its journal.
 
+ghost use Rattle.std.specs.Prelude.{◌≡◌};
+ghost use Rattle.std.specs.List.{list_all};
+ghost use Rattle.lfs_history.specs.Meaning.{step_of};
+ghost use Rattle.lfs_step.specs.Step.{carries_nothing_out, may_take_older};
+
 use lfs_fs::Limits;
 use lfs_history::Move;
 use lfs_json::Form;
@@ -44,4 +49,32 @@ pub enum Step<'a> {
         /// How many images of the past are kept behind it, 1 to 1,000; all of them for `None`.
         keep: Option<u32>,
     },
+}
+
+/// Whether a move leads along a history, or keeps its image alone.
+fn carries_nothing_out(step: &Move<'_>) -> bool
+    ensures { result ≡ carries_nothing_out (step_of step.now) }
+{
+    matches!(step, Move::Undo { .. } | Move::Redo { .. } | Move::Forget)
+}
+
+/// Whether none of several moves carries a command out.
+fn carry_nothing_out(steps: &[Move<'_>]) -> bool
+    ensures { result ≡ list_all (λ step. carries_nothing_out (step_of step)) steps.now }
+{
+    steps.iter().all(|step| carries_nothing_out(step))
+}
+
+impl Step<'_> {
+    /// Whether the state before commits of a later disk version may be taken for the image: no command is carried out on it, which would
+    /// drop what a device wrote.
+    pub fn may_take_older(&self) -> bool
+        ensures { result ≡ may_take_older self.now }
+    {
+        match self {
+            Step::Change(steps) => carry_nothing_out(steps),
+            Step::Tree { .. } => false,
+            _ => true,
+        }
+    }
 }

@@ -11,3 +11,4 @@ pub mod Faults
 pub mod Lost
 pub mod PairKeys
 pub mod Shared
+pub mod Damaged

@@ -48,8 +48,12 @@ fn has_place(fault: MountFault) -> bool {
     }
 }
 
-/// What is found of an image, whose pairs are read as a device does where it is read so.
-fn surveyed(alloc: Global, image: &Image, by_device: bool) -> Result<Survey, AllocError> {
+/// What is found of an image, whose pairs are read as a device does where it is read so. Takes memory.
+pub(crate) fn surveyed(
+    alloc: Global,
+    image: &Image,
+    by_device: bool,
+) -> Result<Survey, AllocError> {
     if !by_device {
         return survey_all(alloc, image);
     }

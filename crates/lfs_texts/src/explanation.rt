@@ -79,10 +79,10 @@ const EXPLANATIONS: [Explanation; 49] = [
         name: "Version",
         text: "The image is of another disk version than 2.0, or a device has changed it with one, as the \
          second line says. `--device` reads version 2.1, and `repack --device` makes an image of \
-         version 2.0 of it; `--older` goes on with the state before such a change, and what is \
-         written then drops it. Since 2.6 littlefs writes disk version 2.1, also into an image of \
-         2.0. It keeps 2.0 where it is built with LFS_MULTIVERSION and `lfs_config.disk_version` is \
-         0x00020000: build the device so, and write the image again.",
+         version 2.0 of it; `--older` reads the state before such a change. Since 2.6 littlefs writes \
+         disk version 2.1, also into an image of 2.0. It keeps 2.0 where it is built with \
+         LFS_MULTIVERSION and `lfs_config.disk_version` is 0x00020000: build the device so, and write \
+         the image again.",
     },
     Explanation {
         number: 11,

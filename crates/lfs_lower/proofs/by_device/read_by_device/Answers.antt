@@ -1,5 +1,5 @@
 -- The image that bytes are is relaid.
-use Rattle.std.proofs.Common.{List, ℕ, inl}
+use Rattle.std.proofs.Common.{inl}
 use Rattle.std.proofs.lemmas.Result.{IfOk-weaker}
 use Rattle.lfs_block.specs.Disk.{Disk, IsDisk}
 use Rattle.lfs_block.proofs.BytesLemmas.{at_bytes}

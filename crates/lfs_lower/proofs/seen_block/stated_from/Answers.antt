@@ -5,15 +5,15 @@ use Rattle.lfs_lower.proofs.seen_block.stated_from.Goals as goal
 
 pub loop-commit-smaller : goal.loop-commit-smaller
 loop-commit-smaller c =
-    commit_shorter c.loop-commit.version c.loop-commit.sum c.loop-commit.prev c.loop-commit.rest.now (later_commit_found c.in-Some.commit) c.in-Some.ensures
+    commit_shorter c.loop-commit.told c.loop-commit.sum c.loop-commit.prev c.loop-commit.rest.now (later_commit_found c.in-Some.commit) c.in-Some.ensures
 
 pub loop-commit-preserved : goal.loop-commit-preserved
 loop-commit-preserved c =
-    commit_more c.loop-commit.is_there c.loop-commit.version c.loop-commit.sum c.loop-commit.prev c.loop-commit.rest.now
+    commit_more c.loop-commit.is_there c.loop-commit.told c.loop-commit.sum c.loop-commit.prev c.loop-commit.rest.now
     (later_commit_found c.in-Some.commit) c.in-Some.ensures
     ∙ c.loop-commit.invariant
 
 pub returns : goal.returns
 returns c =
-    sym (no_commit c.loop-commit.is_there c.loop-commit.version c.loop-commit.sum c.loop-commit.prev c.loop-commit.rest.now c.in_default.ensures)
+    sym (no_commit c.loop-commit.is_there c.loop-commit.told c.loop-commit.sum c.loop-commit.prev c.loop-commit.rest.now c.in_default.ensures)
     ∙ c.loop-commit.invariant

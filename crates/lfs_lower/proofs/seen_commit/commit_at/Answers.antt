@@ -11,7 +11,7 @@ returns-then-closes c =
     let f : TagFront = tag_found c.in-Some.found in
     let closing : closes f.item.word ≡ true = sym c.closes.ensures ∙ c.if-closes.true in
     c.closed.ensures
-    ∙ tag_closes c.loop-found.version c.loop-found.sum c.crc32-sum.result c.loop-found.prev c.loop-found.rest.now f
+    ∙ tag_closes c.loop-found.told c.loop-found.sum c.crc32-sum.result c.loop-found.prev c.loop-found.rest.now f
     (sym c.in-Some.ensures.tag) closing c.crc32-sum.ensures
     ∙ c.loop-found.invariant
 
@@ -23,11 +23,11 @@ pub loop-found-preserved : goal.loop-found-preserved
 loop-found-preserved c =
     let f : TagFront = tag_found c.in-Some.found in
     let unclosed : closes f.item.word ≡ false = sym c.closes.ensures ∙ c.if-closes.false in
-    tag_more c.loop-found.version c.stated_by-version.result c.loop-found.sum c.crc32-sum.result c.crc32-sum-in-Some.result c.loop-found.prev
+    tag_more c.loop-found.told c.told_by-told.result c.loop-found.sum c.crc32-sum.result c.crc32-sum-in-Some.result c.loop-found.prev
     c.word-prev.result c.loop-found.rest.now f (sym c.in-Some.ensures.tag) unclosed c.crc32-sum.ensures c.crc32-sum-in-Some.ensures c.word-prev.ensures
-    c.stated_by-version.ensures
+    c.told_by-told.ensures
     ∙ c.loop-found.invariant
 
 pub returns : goal.returns
 returns c =
-    no_tag c.loop-found.version c.loop-found.sum c.loop-found.prev c.loop-found.rest.now (sym c.in_default.ensures.tag) ∙ c.loop-found.invariant
+    no_tag c.loop-found.told c.loop-found.sum c.loop-found.prev c.loop-found.rest.now (sym c.in_default.ensures.tag) ∙ c.loop-found.invariant

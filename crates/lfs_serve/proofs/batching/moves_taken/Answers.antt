@@ -7,7 +7,6 @@ use Rattle.lfs_exchange.specs.declared.step_kind.StepKind.{StepKind}
 use Rattle.lfs_exchange.specs.Handing.{IsNotTakenUp}
 use Rattle.lfs_report.specs.Stop.{stopped_by}
 use Rattle.lfs_step.specs.declared.step.Step.TheVariants.{Change}
-use Rattle.lfs_serve.specs.Program.{as_it_is}
 use Rattle.lfs_serve.proofs.BatchingLemmas.{same_kind}
 use Rattle.lfs_open.proofs.StopLemmas.{stopped_at}
 use Rattle.lfs_serve.proofs.StepLemmas.{step_at}
@@ -48,6 +47,6 @@ returns-clause-ended g c =
     let request = c.args.request.now in
     let kept = c.taken_up.ensures.kept.0 in
     let fault = stopped_by c.stepped.result in
-    let ends = step_at (Change c.args.steps) (as_it_is request.takes_older) request.size request.image.now mid old new fault fault kept.0 kept.2
+    let ends = step_at (Change c.args.steps) _ request.size request.image.now mid old new fault fault kept.0 kept.2
     refl c.stepped.ensures.ended in
     inl (c.args.steps, refl, ends)

@@ -10,7 +10,6 @@ use Rattle.lfs_host.specs.Files.{Files}
 use Rattle.lfs_host.specs.Scene.{Scene}
 use Rattle.lfs_report.specs.Stop.{stopped_by}
 use Rattle.lfs_step.specs.declared.step.Step.TheVariants.{Change}
-use Rattle.lfs_serve.specs.Program.{as_it_is}
 use Rattle.lfs_open.proofs.StopLemmas.{stopped_at}
 use Rattle.lfs_serve.proofs.StepLemmas.{step_from, claimed_at, handed_from, target_from}
 use Rattle.lfs_serve.proofs.plain_operations.changed.Goals as goal
@@ -51,7 +50,7 @@ returns-clause-ended g c =
     inl (
       Change _,
       (input, reads, same),
-      step_from (Change _) (as_it_is request.takes_older) request.size request.image.now mid old new (stopped_by c.stepped.result)
+      step_from (Change _) _ request.size request.image.now mid old new (stopped_by c.stepped.result)
           (then.0 ∙ first.0) (then.1 ∙ first.2) c.stepped.ensures.ended,
     )
 

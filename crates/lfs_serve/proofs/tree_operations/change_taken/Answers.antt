@@ -1,5 +1,5 @@
 -- The image's files aren't taken up, or the change is taken on them.
-use Rattle.std.proofs.Common.{inl, inr}
+use Rattle.std.proofs.Common.{inl, inr, false}
 use Rattle.std.proofs.lemmas.Result.{err_from_is_err_and}
 use Rattle.lfs_host.specs.Scene.{Scene}
 use Rattle.lfs_report.specs.Stop.{stopped_by}
@@ -30,6 +30,6 @@ returns-clause-ended g c =
     let request = c.args.request.now in
     let kept = c.taken_up.ensures.kept.0 in
     inl (
-    step_from (Tree c.args.change c.args.keep) (as_it_is request.takes_older) request.size request.image.now mid old new
+    step_from (Tree c.args.change c.args.keep) (as_it_is false) request.size request.image.now mid old new
     (stopped_by c.stepped.result) kept.0 kept.2 c.stepped.ensures.ended
     )

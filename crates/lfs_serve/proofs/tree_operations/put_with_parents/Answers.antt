@@ -1,5 +1,5 @@
 -- The image's files aren't at hand, or what is put isn't read, or the change is taken.
-use Rattle.std.proofs.Common.{◌≡◌, ◌∙◌, ℕ, List, Option, refl, sym, subst, inl, inr, string_bytes}
+use Rattle.std.proofs.Common.{◌≡◌, ◌∙◌, ℕ, List, Option, refl, sym, subst, inl, inr, string_bytes, false}
 use Rattle.std.proofs.lemmas.Result.{err_from_is_err_and}
 use Rattle.lfs_exchange.specs.declared.step_kind.StepKind.TheVariants.{Changes}
 use Rattle.lfs_exchange.specs.Handing.{HandsSource}
@@ -78,7 +78,7 @@ returns-clause-ended g c =
     inl (
       Tree _ c.args.keep,
       ((refl, (read, reads, c.contents_of-bytes.ensures)), refl),
-      step_from (Tree _ c.args.keep) (as_it_is request.takes_older) request.size request.image.now mid old new (stopped_by c.put_taken.result)
+      step_from (Tree _ c.args.keep) (as_it_is false) request.size request.image.now mid old new (stopped_by c.put_taken.result)
           (then.0 ∙ first.0) (then.1 ∙ first.2) c.put_taken.ensures.ended,
     )
 

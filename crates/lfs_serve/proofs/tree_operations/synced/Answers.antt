@@ -1,5 +1,5 @@
 -- A folder isn't read, or the image is made like it.
-use Rattle.std.proofs.Common.{◌≡◌, ◌∙◌, List, refl, sym, subst, inl, inr, map}
+use Rattle.std.proofs.Common.{◌≡◌, ◌∙◌, List, refl, sym, subst, inl, inr, map, false}
 use Rattle.std.proofs.lemmas.Result.{err_from_is_err_and}
 use Rattle.lfs_command.specs.declared.refusal.Refusal.TheVariants.{Memory as No_memory}
 use Rattle.lfs_exchange.specs.declared.step_kind.StepKind.TheVariants.{Changes}
@@ -75,7 +75,7 @@ returns-clause-ended g c =
       | inl ends ↦ inl (
         Tree change c.args.keep,
         ((refl, folded), refl),
-        step_from (Tree change c.args.keep) (as_it_is request.takes_older) request.size request.image.now mid old new
+        step_from (Tree change c.args.keep) (as_it_is false) request.size request.image.now mid old new
             (stopped_by c.change_taken.result) kept.0.0 kept.0.2 ends,
       )
       | inr not ↦

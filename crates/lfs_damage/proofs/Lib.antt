@@ -1,0 +1,2 @@
+pub mod ClosingSteps
+pub mod EndLoops

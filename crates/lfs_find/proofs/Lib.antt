@@ -1,0 +1,4 @@
+pub mod FoundLemmas
+pub mod SizesLemmas
+pub mod PlacesLemmas
+pub mod LookLemmas
