@@ -297,6 +297,7 @@ def torn(block):
 # The blocks of a directory's pair in the order in which the thread names it, of which the first one or the second is live, and
 # the revision behind that of the live one.
 F, OLD = file(0, b"f", b"hi"), file(0, b"old")
+OLDER_READ = "a commit with a wrong checksum stands after the last one; an older state is read"
 PAIRS = {
     "a second block that is erased": ((whole_log(5, F), b""), 0, 6),
     "a second block that is older": ((whole_log(5, F), log(4, OLD)), 0, 6),
@@ -322,14 +323,17 @@ def pair_of(size, pair, held, rest=b""):
 def other_writers_pairs(folder):
     for size in SIZES:
         for pair in (2, 3), (5, 2):
-            for held in PAIRS.values():
+            for name, held in PAIRS.items():
                 blocks = Changes(folder, size)
                 live, other, following = pair[held[1]], pair[1 - held[1]], held[2]
+                if "torn" in name:
+                    blocks.reported = f"lfsed: a.img: /d: blocks {pair[0]} and {pair[1]}: {OLDER_READ}\n"
                 blocks.be(8, pair_of(size, pair, held))
                 blocks.appends("setattr /d/f 74 01", {live: attribute(0, 0x74, b"\1")})
                 blocks.appends("put /d/g", {live: created(1) + file(1, b"g", contents(3))}, length=3)
                 blocks.appends("rm /d/f", {live: deleted(0)})
                 blocks.holds({b"/d": (None, {}), b"/d/g": (contents(3), {})})
+                blocks.reported = ""
                 blocks.be(8, pair_of(size, pair, held, b"\xff\xff\xfe"))
                 blocks.leaves("setattr /d/f 74 01", {other: log(following, F + attribute(0, 0x74, b"\1"), 16)})
                 blocks.appends("rmattr /d/f 74", {other: attribute(0, 0x74, None)})

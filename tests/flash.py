@@ -356,17 +356,18 @@ def sparse(folder, length, at, front):
 
 def files_larger_than_an_image(folder):
     """Holes, of which a front no longer than an image is looked at. Blocks of an image that are free may have any bytes."""
-    empty = "block {}, count {}, free {}, directories 1, files 0\n"
+    empty = "block {}, count {}, free {}, directories 1, files 0, version {}\n"
     for size, count, length, at in (
         (512, 8, 200 * MIB, 100 * MIB + 12_345), (512, 8, 5 << 30, (4 << 30) + 1), (4_096, 16_384, 65 * MIB, MIB),
         (65_536, 1_024, 65 * MIB, MIB - 3), (65_536, 1_024, 64 * MIB, 0), (256, 65_536, 80 * MIB, 7), (1_024, 65_536, 64 * MIB + 1, 1),
     ):
         spelled_front = log(1, superblock(size, count))
-        for front, options in (spelled_front, ""), (spelled_front, " --device"), (written(1, size, root(size=size, count=count)), " --device"):
+        later_front = written(1, size, root(size=size, count=count))
+        for front, options, version in (spelled_front, "", "2.0"), (spelled_front, " --device", "2.0"), (later_front, " --device", "2.1"):
             before = sparse(folder, length, at, front)
             line = f"check -b {size}{options} --offset {at} {FLASH}"
             ended = folder.run(line)
-            folder.check(line, ended == (0, "", empty.format(size, count, count - 2).encode()), ended)
+            folder.check(line, ended == (0, "", empty.format(size, count, count - 2, version).encode()), ended)
             found = beside(folder, FLASH).stat()
             folder.check(f"{line}: the file", (found.st_size, found.st_mtime_ns, found.st_ino) == before)
     ended = folder.run(f"check -b 1024 {FLASH}")
@@ -474,17 +475,22 @@ def finds(folder, what, held, wanted):
 
 def each_says_what_check_does(folder, what):
     """Each line of what is found in the file says what `check` does there, as a device reads it; answers places and verdicts."""
-    lines_found = folder.run(f"find {FLASH}")[2].decode().splitlines()
+    found = folder.run(f"find {FLASH}")
+    folder.check(f"find: {what}: --device changes nothing", folder.run(f"find --device {FLASH}") == found)
+    lines_found = found[2].decode().splitlines()
     places = []
     for line in lines_found:
-        words = re.fullmatch(r"(0x[0-9a-f]+)  version \d+\.\d+  block (\d+)  count (\d+)  (\d+) bytes  (mounts|\d+ \w+)", line)
-        is_line = words is not None and int(words[2]) * int(words[3]) == int(words[4])
+        words = re.fullmatch(r"(?P<place>0x[0-9a-f]+)  version (?P<version>\d+\.\d+)  block (?P<block>\d+)  count (?P<count>\d+)  "
+                             r"(?P<bytes>\d+) bytes  (?P<verdict>mounts|\d+ \w+)", line)
+        is_line = words is not None and int(words["block"]) * int(words["count"]) == int(words["bytes"])
         folder.check(f"find: {what}: {line}", is_line)
         if is_line:
-            ended = folder.run(f"check --device --offset {words[1]} --block {words[2]} {FLASH}")
-            is_same = ended[0] == 0 if words[5] == "mounts" else ended[0] == 3 and ended[1].startswith(f"lfsed: {words[5]}\n")
+            ended = folder.run(f"check --device --offset {words['place']} --block {words['block']} {FLASH}")
+            is_same = ended[0] == 3 and ended[1].startswith(f"lfsed: {words['verdict']}\n")
+            if words["verdict"] == "mounts":
+                is_same = ended[0] == 0 and ended[2].decode().endswith(f", version {words['version']}\n")
             folder.check(f"find: {what}: {line}: check", is_same, ended)
-            places.append((int(words[1], 16), words[5]))
+            places.append((int(words["place"], 16), words["verdict"]))
     folder.check(f"find: {what}: places rise", places == sorted(places), places)
     return places
 

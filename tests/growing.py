@@ -58,7 +58,7 @@ class Growing(Changes):
     def is_said(self, free, directories=1, files=0):
         """Compares the line that is said of the image."""
         count = len(self.folder.old()) // self.size
-        wanted = f"block {self.size}, count {count}, free {free}, directories {directories}, files {files}\n"
+        wanted = f"block {self.size}, count {count}, free {free}, directories {directories}, files {files}, version 2.0\n"
         self.folder.play([(f"check -b {self.size} a.img", 0, 0, "", wanted)])
 
     def shown(self, *files):

@@ -230,7 +230,7 @@ def later_entries_that_are_named_first(folder):
         items = superblock(32_768, 2) + [(0x001, first, b"f")] + named
         folder.be(image(32_768, 2, {0: log(1, items)}), 0)
         ended = folder.run("check -b 32768 a.img")
-        said = f"block 32768, count 2, free 0, directories 1, files {first}\n"
+        said = f"block 32768, count 2, free 0, directories 1, files {first}, version 2.0\n"
         folder.check(f"entry {first} that is named first", ended == (0, "", said.encode()), ended)
 
 
@@ -243,7 +243,7 @@ def nested_directories(folder):
     blocks[4_000] = log(1, [])
     folder.be(image(256, 4_002, blocks), 0)
     ended = folder.run("check -b 256 a.img")
-    folder.check("nested directories", ended == (0, "", b"block 256, count 4002, free 0, directories 2001, files 0\n"), ended)
+    folder.check("nested directories", ended == (0, "", b"block 256, count 4002, free 0, directories 2001, files 0, version 2.0\n"), ended)
 
 
 def be_second(folder, first, second=b"", pair=(2, 3)):

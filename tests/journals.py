@@ -436,7 +436,7 @@ def a_run_that_stopped_between_the_files(folder):
     folder.check("the new journal", journal.now() == new)
     journal.refuses("undo", 3, NO_MATCH)
     ended = journal.ended("check")
-    folder.check("check", ended == (0, "", b"block 512, count 8, free 4, directories 2, files 0\n"), ended)
+    folder.check("check", ended == (0, "", b"block 512, count 8, free 4, directories 2, files 0, version 2.0\n"), ended)
     journal.does("forget", FRESH)
     journal.is_image("forget", middle)
 

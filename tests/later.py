@@ -21,7 +21,7 @@ REFUSED = "lfsed: 10 Version\n" + CHANGED_BY_DEVICE
 REFUSED_OTHER = REFUSED.replace("a.img", "b.img")
 REFUSED_MOVE = REFUSED.replace("--device", "repack --device")
 REFUSED_CHANGE = REFUSED_MOVE.replace(", --older goes on with the state before that", "")
-SAID = "block 512, count 8, free 6, directories 1, files 1\n"
+SAID = "block 512, count 8, free 6, directories 1, files 1, version 2.0\n"
 
 
 def version(number, name=()):

@@ -87,7 +87,7 @@ def is_packed(folder, what, size, count):
     folder.check(f"{what}: ls", ended == (0, "", listing_of(place).encode()), ended[:2])
     paths = paths_of(place)
     folders = sum(here.is_dir() for _, here in paths)
-    said = f"block {size}, count {count}, free {reader.free()}, directories {folders}, files {len(paths) - folders}\n"
+    said = f"block {size}, count {count}, free {reader.free()}, directories {folders}, files {len(paths) - folders}, version 2.0\n"
     ended = folder.run(f"check -b {size} a.img")
     folder.check(f"{what}: check", ended == (0, "", said.encode()), ended)
 
@@ -110,7 +110,7 @@ def worked_folder(folder):
     ended = folder.run("ls -b 512 a.img")
     folder.check("listing", ended[2] == b"d          - /\nd          - /d\nf         65 /d/f\n", ended)
     ended = folder.run("check -b 512 a.img")
-    folder.check("free", ended[2] == b"block 512, count 8, free 3, directories 2, files 1\n", ended)
+    folder.check("free", ended[2] == b"block 512, count 8, free 3, directories 2, files 1, version 2.0\n", ended)
     folder.check("journal", folder.saved() == FRESH, folder.saved())
     first = folder.old()
     folder.check("mkdir", folder.run("mkdir -b 512 a.img /e") == (0, "", b""))

@@ -2,12 +2,14 @@
 """Lives of images between a real littlefs and the program, `real.py [LIVES [SEED]]`, 40 lives by default.
 
 In each life littlefs formats a flash and changes it by random calls: over several sizes of blocks and caches, with and without times, with
-thousands of writes, so that pairs move and the superblock is expanded, or until the flash is full. The program reads and repacks that image, finds
-it in a dump, and littlefs mounts the copy. Then the program changes the copy, takes changes back and makes them again; littlefs mounts each image that it
-leaves. At last littlefs changes the copy, and the program reads that. All listings, contents, times and attributes are compared."""
+thousands of writes, so that pairs move and the superblock is expanded, or until the flash is full. The program reads, salvages and repacks
+that image, finds it in a dump, and littlefs mounts the copy. Then the program changes the copy, takes changes back and makes them again;
+littlefs mounts each image that it leaves. At last littlefs changes the copy, and the program reads that. All listings, contents, times and
+attributes are compared."""
 import multiprocessing
 import pathlib
 import random
+import shutil
 import subprocess
 import sys
 import tempfile
@@ -149,6 +151,7 @@ class Life:
         found = self.is_read("the device's image", "--device", "-b", "auto")
         if not found:
             return None
+        self.salvage(found[0])
         more = self.count + self.chance.choice([0, 8])
         ended = self.run("repack", "--device", "-b", str(self.block), "--count", str(more), "b.img", self.name)
         self.check("repacked", ended[0] == 0 or ended[1] == ROOM, ended)
@@ -159,6 +162,16 @@ class Life:
         again = self.is_read("repacked", "-b", "auto")
         self.check("repacked: attributes", again and again[1] == found[1])
         return found
+
+    def salvage(self, rows):
+        """Compares what is saved of the device's image with what it holds."""
+        ended, saved = self.run("salvage", "-b", "auto", self.name, "saved"), self.folder / "saved"
+        held = {"/": ("d", 0, "")}
+        for path in saved.rglob("*"):
+            row = ("d", 0, "") if path.is_dir() else ("f", path.stat().st_size, sha256(path.read_bytes()))
+            held[f"/{path.relative_to(saved)}"] = row
+        self.check("salvaged", ended[0] == 0 and not ended[3] and held == rows, ended)
+        shutil.rmtree(saved, ignore_errors=True)
 
     def noise(self, length):
         """Bytes that stand around an image in a dump: erased, zero or random ones, or text."""

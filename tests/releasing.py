@@ -29,7 +29,7 @@ MOVED = {
 # What is run in a bare root, and what is printed then.
 RUNS = [
     (["pack", "--block", "512", "--count", "16", "a.img", "fw"], ""),
-    (["check", "--block", "512", "a.img"], "block 512, count 16, free 14, directories 1, files 1\n"),
+    (["check", "--block", "512", "a.img"], "block 512, count 16, free 14, directories 1, files 1, version 2.0\n"),
     (["mkdir", "--block", "512", "a.img", "/logs"], ""),
     (["undo", "--block", "512", "a.img"], ""),
     (["cat", "--block", "512", "a.img", "/config"], "wifi=on\n"),

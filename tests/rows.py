@@ -119,7 +119,7 @@ JUDGED = [
     (NEW, 4_096, ("extract -b 260 a.img made", 0, 3, OFF_GRAIN, "")),
     (NEW, 4_096, ("format -b 260 --count 8 a.img", 0, 3, OFF_GRAIN, "")),
     (NEW, 4_096, ("cat a.img -b512 /a", 0, 1, "lfsed: 30 NotFound\n", "")),
-    (WITH_DELETED, 4_096, ("check --block 512 a.img", 0, 0, "", "block 512, count 8, free 6, directories 1, files 0\n")),
+    (WITH_DELETED, 4_096, ("check --block 512 a.img", 0, 0, "", "block 512, count 8, free 6, directories 1, files 0, version 2.0\n")),
     (NEW, 4_095, ("setattr --block=512 a.img / 74 01", 0, 3, "lfsed: 1 ImageLength\n", "")),
     (b"", 4_096, ("setattr --block=512 a.img / 74 01", 0, 3, "lfsed: 3 NoValidCommit\n", "")),
     (NEW, 3_584, ("setattr --block=512 a.img / 74 01", 0, 3, "lfsed: 11 Geometry\nlfsed: a.img: its superblock states 8 blocks of 512 bytes\n", "")),
@@ -128,30 +128,30 @@ JUDGED = [
 # A new image of 8 blocks.
 EIGHT = [
     ("format --block 512 --count 8 a.img", 0, 0, "", ""),
-    ("check --block 512 a.img", 0, 0, "", "block 512, count 8, free 6, directories 1, files 0\n"),
+    ("check --block 512 a.img", 0, 0, "", "block 512, count 8, free 6, directories 1, files 0, version 2.0\n"),
 ]
 
 # A new image of 2 blocks.
 TWO = [
     ("format --block 512 --count 2 a.img", 0, 0, "", ""),
-    ("check --block 512 a.img", 0, 0, "", "block 512, count 2, free 0, directories 1, files 0\n"),
+    ("check --block 512 a.img", 0, 0, "", "block 512, count 2, free 0, directories 1, files 0, version 2.0\n"),
 ]
 
 # Files at the limit up to which their contents stand in the entry, each on an image of its own.
 INLINE = [
     [
         ("put --block=512 a.img /f", 0, 0, "", ""),
-        ("check --block=512 a.img", 0, 0, "", "block 512, count 8, free 6, directories 1, files 1\n"),
+        ("check --block=512 a.img", 0, 0, "", "block 512, count 8, free 6, directories 1, files 1, version 2.0\n"),
         ("cat --block=512 a.img /f", 0, 0, "", 0),
     ],
     [
         ("put --block=512 a.img /f", 64, 0, "", ""),
-        ("check --block=512 a.img", 0, 0, "", "block 512, count 8, free 6, directories 1, files 1\n"),
+        ("check --block=512 a.img", 0, 0, "", "block 512, count 8, free 6, directories 1, files 1, version 2.0\n"),
         ("cat --block=512 a.img /f", 0, 0, "", 64),
     ],
     [
         ("put --block=512 a.img /f", 65, 0, "", ""),
-        ("check --block=512 a.img", 0, 0, "", "block 512, count 8, free 5, directories 1, files 1\n"),
+        ("check --block=512 a.img", 0, 0, "", "block 512, count 8, free 5, directories 1, files 1, version 2.0\n"),
         ("cat --block=512 a.img /f", 0, 0, "", 65),
     ],
 ]
@@ -170,7 +170,7 @@ TOO_GREAT = [("format --block 65536 --count 1025 a.img", 0, 3, "lfsed: 2 BadGeom
 FULL = [
     ("put --block=512 a.img /f", 3_041, 1, "lfsed: 43 NoSpace need 7 free 6\n", ""),
     ("put --block=512 a.img /f", 3_040, 0, "", ""),
-    ("check --block=512 a.img", 0, 0, "", "block 512, count 8, free 0, directories 1, files 1\n"),
+    ("check --block=512 a.img", 0, 0, "", "block 512, count 8, free 0, directories 1, files 1, version 2.0\n"),
     ("cat --block=512 a.img /f", 0, 0, "", 3_040),
     ("put --block=512 a.img /f", 3_040, 1, "lfsed: 43 NoSpace need 6 free 0\n", ""),
     ("cat --block=512 a.img /f", 0, 0, "", 3_040),
@@ -180,10 +180,10 @@ FULL = [
 REPLACED = [
     ("put --block=512 a.img /f", 513, 0, "", ""),
     ("setattr --block=512 a.img /f 74 01", 0, 0, "", ""),
-    ("check --block=512 a.img", 0, 0, "", "block 512, count 8, free 4, directories 1, files 1\n"),
+    ("check --block=512 a.img", 0, 0, "", "block 512, count 8, free 4, directories 1, files 1, version 2.0\n"),
     ("cat --block=512 a.img /f", 0, 0, "", 513),
     ("put --block=512 a.img /f", 3, 0, "", ""),
-    ("check --block=512 a.img", 0, 0, "", "block 512, count 8, free 6, directories 1, files 1\n"),
+    ("check --block=512 a.img", 0, 0, "", "block 512, count 8, free 6, directories 1, files 1, version 2.0\n"),
     ("cat --block=512 a.img /f", 0, 0, "", 3),
     ("rmattr --block=512 a.img /f 74", 0, 0, "", ""),
     ("rmattr --block=512 a.img /f 74", 0, 1, "lfsed: 39 NoAttr\n", ""),
@@ -213,7 +213,7 @@ NAMES = [
     ("put --block=512 a.img /ab", 0, 0, "", ""),
     ("put --block=512 a.img /a", 0, 0, "", ""),
     ("put --block=512 a.img /b", 0, 0, "", ""),
-    ("check --block=512 a.img", 0, 0, "", "block 512, count 8, free 6, directories 1, files 3\n"),
+    ("check --block=512 a.img", 0, 0, "", "block 512, count 8, free 6, directories 1, files 3, version 2.0\n"),
 ]
 
 # An image that keeps names up to 3 bytes.
@@ -279,24 +279,24 @@ REMOVE = [
 # What is said of it then.
 REMOVED = [
     ("rmattr --block=512 a.img / 74", 0, 1, "lfsed: 39 NoAttr\n", ""),
-    ("check --block=512 a.img", 0, 0, "", "block 512, count 8, free 6, directories 1, files 0\n"),
+    ("check --block=512 a.img", 0, 0, "", "block 512, count 8, free 6, directories 1, files 0, version 2.0\n"),
 ]
 
 # What is moved goes with what is below.
 MOVED = [
     ("mkdir --block=512 a.img /a", 0, 0, "", ""),
     ("put --block=512 a.img /a/x", 65, 0, "", ""),
-    ("check --block=512 a.img", 0, 0, "", "block 512, count 8, free 3, directories 2, files 1\n"),
+    ("check --block=512 a.img", 0, 0, "", "block 512, count 8, free 3, directories 2, files 1, version 2.0\n"),
     ("mv --block=512 a.img /a /z", 0, 0, "", ""),
     ("cat --block=512 a.img /z/x", 0, 0, "", 65),
     ("cat --block=512 a.img /a/x", 0, 1, "lfsed: 30 NotFound\n", ""),
     ("mv --block=512 a.img /z/x /-x", 0, 0, "", ""),
     ("cat --block=512 a.img /-x", 0, 0, "", 65),
-    ("check --block=512 a.img", 0, 0, "", "block 512, count 8, free 3, directories 2, files 1\n"),
+    ("check --block=512 a.img", 0, 0, "", "block 512, count 8, free 3, directories 2, files 1, version 2.0\n"),
     ("rm --block=512 a.img /z", 0, 0, "", ""),
     ("rm --block=512 a.img /-x", 0, 0, "", ""),
     ("cat --block=512 a.img /-x", 0, 1, "lfsed: 30 NotFound\n", ""),
-    ("check --block=512 a.img", 0, 0, "", "block 512, count 8, free 6, directories 1, files 0\n"),
+    ("check --block=512 a.img", 0, 0, "", "block 512, count 8, free 6, directories 1, files 0, version 2.0\n"),
 ]
 
 # What is refused of directories.
@@ -348,16 +348,16 @@ NO_IMAGE = [
 # The size of an image of 8 blocks of 512 bytes in each way that it is said, and of one that grew to 16.
 SIZES = ["--count 8", "--size 4096", "--size=4k", "--size 0x1000", "--size 0x00001000"]
 GROWN = ["16", "--size 8192", "--size=8k", "--size 0x2000"]
-GROWN_CHECK = ("check -b 512 a.img", 0, 0, "", "block 512, count 16, free 14, directories 1, files 0\n")
+GROWN_CHECK = ("check -b 512 a.img", 0, 0, "", "block 512, count 16, free 14, directories 1, files 0, version 2.0\n")
 
 # The block size that the first block states, said in each way.
 AUTO = [
-    ("check --block auto a.img", 0, 0, "", "block 512, count 8, free 6, directories 1, files 0\n"),
+    ("check --block auto a.img", 0, 0, "", "block 512, count 8, free 6, directories 1, files 0, version 2.0\n"),
     ("mkdir --block=auto a.img /d", 0, 0, "", ""),
     ("ls -b auto a.img", 0, 0, "", "d          - /\nd          - /d\n"),
     ("undo -bauto a.img", 0, 0, "", ""),
     ("grow -b auto a.img --size 8k", 0, 0, "", ""),
-    ("check --older -b auto a.img", 0, 0, "", "block 512, count 16, free 14, directories 1, files 0\n"),
+    ("check --older -b auto a.img", 0, 0, "", "block 512, count 16, free 14, directories 1, files 0, version 2.0\n"),
     ("check a.img", 0, 3, "lfsed: 11 Geometry\nlfsed: a.img: its superblock states 16 blocks of 512 bytes\n", ""),
 ]
 
@@ -367,10 +367,10 @@ def stated_elsewhere():
     """Images and what `check --block auto` prints of them."""
     for size in 256, 272, 4_080, 8_192, 65_536:
         second = image(size, 4, {0: bytes(4), 1: log(1, superblock(size, 4) + file(1, b"f"))})
-        yield second, f"block {size}, count 4, free 2, directories 1, files 1\n"
+        yield second, f"block {size}, count 4, free 2, directories 1, files 1, version 2.0\n"
     made = [*created(0), *superblock(512, 4), *created(1), *file(1, b"f")]
-    yield image(512, 4, {0: log(1, made)}), "block 512, count 4, free 2, directories 1, files 1\n"
-    yield image(512, 4, {0: bytes(512), 1: log(1, made)}), "block 512, count 4, free 2, directories 1, files 1\n"
+    yield image(512, 4, {0: log(1, made)}), "block 512, count 4, free 2, directories 1, files 1, version 2.0\n"
+    yield image(512, 4, {0: bytes(512), 1: log(1, made)}), "block 512, count 4, free 2, directories 1, files 1, version 2.0\n"
 
 
 MORE = "\n\nFor more information, try '--help'.\n"
@@ -386,7 +386,7 @@ GROW_USAGE = "Usage: lfsed grow [OPTIONS] <IMAGE> <COUNT|--size <BYTES>>"
 
 # Command lines that are refused, and how what is complained begins.
 USAGE = [
-    ("explain 22", "error: invalid value '22' for '[FAULT]...': no fault has this number or name\n\nFor more information, try '--help'.\n"),
+    ("explain 23", "error: invalid value '23' for '[FAULT]...': no fault has this number or name\n\nFor more information, try '--help'.\n"),
     ("explain 41 nospaces", "error: invalid value 'nospaces' for '[FAULT]...': no fault has this number or name\n\nFor more information, try '--help'.\n"),
     ("chekc a.img", "error: unrecognized subcommand 'chekc'\n\n  tip: a similar subcommand exists: 'check'\n\nUsage: lfsed <COMMAND>\n\nFor more information, try '--help'.\n"),
     ("check --xml a.img", "error: unexpected argument '--xml' found\n\nUsage: lfsed check [OPTIONS] <IMAGE>\n\nFor more information, try '--help'.\n"),
@@ -551,7 +551,7 @@ HELPS = [
     ("format --help", 0, 0, "", "Write a new image, in place of a file of this name\n\nUsage: lfsed format [OPTIONS] <--count <N>|--size <BYTES>> <IMAGE>\n\nArguments:\n  <IMAGE>  File of the image\n\nOptions:\n  -b, --block <BYTES>  Size of a block, a multiple of 16 from 256 to 65536 [default: 4096]\n      --count <N>      Number of blocks, from 2 to 65536; at most 67108864 bytes in all\n      --size <BYTES>   Size of the image, in place of the number of blocks: 1048576, 0x100000, 1024k or 1M\n      --name-max <N>   Greatest length of a name in bytes, from 1 to 1022 [default: 255]\n      --file-max <N>   Greatest length of a file in bytes, from 1 to 2147483647 [default: 2147483647]\n      --attr-max <N>   Greatest length of an attribute in bytes, from 1 to 1022 [default: 1022]\n      --new            Refuse to replace a file that is there\n  -h, --help           Print help\n"),
     ("pack --help", 0, 0, "", "Write a new image with what is in a folder, in place of a file of this name\n\nUsage: lfsed pack [OPTIONS] <--count <N>|--size <BYTES>|--least> <IMAGE> <DIR>\n\nArguments:\n  <IMAGE>  File of the image\n  <DIR>    Folder, of whose files and folders the image is made\n\nOptions:\n  -b, --block <BYTES>  Size of a block, a multiple of 16 from 256 to 65536 [default: 4096]\n      --count <N>      Number of blocks, from 2 to 65536; at most 67108864 bytes in all\n      --size <BYTES>   Size of the image, in place of the number of blocks: 1048576, 0x100000, 1024k or 1M\n      --least          Give it the least number of blocks that holds the folder\n      --name-max <N>   Greatest length of a name in bytes, from 1 to 1022 [default: 255]\n      --file-max <N>   Greatest length of a file in bytes, from 1 to 2147483647 [default: 2147483647]\n      --attr-max <N>   Greatest length of an attribute in bytes, from 1 to 1022 [default: 1022]\n      --new            Refuse to replace a file that is there\n  -h, --help           Print help\n"),
     ("repack --help", 0, 0, "", "Write a new image with all that another one holds, in place of a file of this name\n\nUsage: lfsed repack [OPTIONS] <IMAGE> <SOURCE>\n\nArguments:\n  <IMAGE>   File of the image\n  <SOURCE>  File of the image that it is made of; it may be IMAGE itself\n\nOptions:\n  -b, --block <BYTES>       Size of a block, a multiple of 16 from 256 to 65536 [default: 4096]\n      --from-block <BYTES>  Size of a block of SOURCE, a multiple of 16 from 256 to 65536, or auto [default: auto]\n      --count <N>           Number of blocks, from 2 to 65536; at most 67108864 bytes in all\n      --size <BYTES>        Size of the image, in place of the number of blocks: 1048576, 0x100000, 1024k or 1M\n      --least               Give it the least number of blocks that holds all of it\n      --name-max <N>        Greatest length of a name in bytes, from 1 to 1022; that of SOURCE where it is not said\n      --file-max <N>        Greatest length of a file in bytes, from 1 to 2147483647; that of SOURCE where it is not said\n      --attr-max <N>        Greatest length of an attribute in bytes, from 1 to 1022; that of SOURCE where it is not said\n      --new                 Refuse to replace a file that is there\n      --device              Read the image as a device does: also disk version 2.1, and a superblock that was expanded\n      --offset <BYTES>      Place in SOURCE at which the image begins: 1114112, 0x110000, 1088k or 1M\n      --older               Go on with the state before commits of a later disk version, which are not read\n  -h, --help                Print help\n"),
-    ("find --help", 0, 0, "", "List where in a file images begin, with what they state and whether they mount\n\nUsage: lfsed find <FLASH>\n\nArguments:\n  <FLASH>  File that images are looked for in\n\nOptions:\n  -h, --help  Print help\n"),
+    ("find --help", 0, 0, "", "List where in a file images begin, with what they state and whether they mount\n\nUsage: lfsed find [OPTIONS] <FLASH>\n\nArguments:\n  <FLASH>  File that images are looked for in\n\nOptions:\n      --device  Read the image as a device does: also disk version 2.1, and a superblock that was expanded\n  -h, --help    Print help\n"),
     ("extract --help", 0, 0, "", "Make a new folder with what is in an image; attributes are left behind\n\nUsage: lfsed extract [OPTIONS] <IMAGE> <DIR> [PATH]\n\nArguments:\n  <IMAGE>  File of the image\n  <DIR>    Folder that is made; nothing may be there\n  [PATH]   Path in the image that the folder is made of, from / on, with all below it; all of the image where none is said\n\nOptions:\n  -b, --block <BYTES>   Size of a block, a multiple of 16 from 256 to 65536, or auto [default: 4096]\n      --device          Read the image as a device does: also disk version 2.1, and a superblock that was expanded\n      --offset <BYTES>  Place in the file at which the image begins: 1114112, 0x110000, 1088k or 1M\n      --older           Go on with the state before commits of a later disk version, which are not read\n  -h, --help            Print help\n"),
     ("salvage --help", 0, 0, "", "Make a new folder with all that can still be read of an image, also of one that doesn't mount\n\nUsage: lfsed salvage [OPTIONS] <IMAGE> <DIR>\n\nArguments:\n  <IMAGE>  File of the image\n  <DIR>    Folder that is made; nothing may be there\n\nOptions:\n  -b, --block <BYTES>   Size of a block, a multiple of 16 from 256 to 65536, or auto [default: 4096]\n      --device          Read the image as a device does: also disk version 2.1, and a superblock that was expanded\n      --offset <BYTES>  Place in the file at which the image begins: 1114112, 0x110000, 1088k or 1M\n      --older           Go on with the state before commits of a later disk version, which are not read\n  -h, --help            Print help\n"),
     ("check --help", 0, 0, "", "Judge an image; print its geometry, free blocks, directories and files\n\nUsage: lfsed check [OPTIONS] <IMAGE>\n\nArguments:\n  <IMAGE>  File of the image\n\nOptions:\n  -b, --block <BYTES>   Size of a block, a multiple of 16 from 256 to 65536, or auto [default: 4096]\n      --json            Print an object of JSON a line\n      --device          Read the image as a device does: also disk version 2.1, and a superblock that was expanded\n      --offset <BYTES>  Place in the file at which the image begins: 1114112, 0x110000, 1088k or 1M\n      --older           Go on with the state before commits of a later disk version, which are not read\n  -h, --help            Print help\n"),
@@ -595,7 +595,7 @@ def verdicts(folder):
     folder.image.unlink()
     folder.play([*TOO_MANY, *TOO_GREAT])
     for size, count in GEOMETRIES:
-        free = f"block {size}, count {count}, free {count - 2}, directories 1, files 0\n"
+        free = f"block {size}, count {count}, free {count - 2}, directories 1, files 0, version 2.0\n"
         folder.play([(f"format -b {size} --count {count} a.img", 0, 0, "", ""), (f"check -b {size} a.img", 0, 0, "", free)])
         folder.check(f"length of {count} blocks", len(folder.old()) == size * count)
         folder.image.unlink()
@@ -604,7 +604,7 @@ def verdicts(folder):
 def files(folder):
     for size, rows in TAKEN.items():
         for length, free in rows:
-            said = f"block {size}, count 64, free {free}, directories 1, files 1\n"
+            said = f"block {size}, count 64, free {free}, directories 1, files 1, version 2.0\n"
             folder.play([
                 (f"format -b {size} --count 64 a.img", 0, 0, "", ""),
                 (f"put -b {size} a.img /f", length, 0, "", ""),
@@ -655,7 +655,7 @@ def sizes(folder):
         folder.play([(f"format -b 512 {said} a.img", 0, 0, "", "")])
         folder.check(said, folder.old() == NEW.ljust(4_096, b"\xff"))
         folder.image.unlink()
-    folder.play([("format --size 1M a.img", 0, 0, "", ""), ("check a.img", 0, 0, "", "block 4096, count 256, free 254, directories 1, files 0\n")])
+    folder.play([("format --size 1M a.img", 0, 0, "", ""), ("check a.img", 0, 0, "", "block 4096, count 256, free 254, directories 1, files 0, version 2.0\n")])
     for said in GROWN:
         folder.be(NEW, 4_096)
         folder.play([(f"grow -b 512 a.img {said}", 0, 0, "", ""), GROWN_CHECK])

@@ -40,7 +40,8 @@ def images_are_read(folder):
             folder.check(f"{name}: left unfinished", fault in UNFINISHED, told)
             continue
         said = f"block {about['block']}, count {about['count']}, free "
-        folder.check(f"{name}: checked", (status, told) == (0, "") and printed.decode().startswith(said), (status, told, printed))
+        is_said = printed.decode().startswith(said) and printed.decode().endswith(", version 2.1\n")
+        folder.check(f"{name}: checked", (status, told) == (0, "") and is_said, (status, told, printed))
         listed(folder, about, name, f"--device -b auto {at}")
 
 

@@ -46,7 +46,9 @@ class Blocks:
 
 
 class Changes(Blocks):
-    """An image of which it is known which blocks each command leaves."""
+    """An image of which it is known which blocks each command leaves, and what `check` reports of it."""
+
+    reported = ""
 
     def block(self, number):
         """The bytes of a block."""
@@ -77,7 +79,7 @@ class Changes(Blocks):
             self.do(step)
             self.become(f"{line}, {step}", image)
         said = self.folder.run(f"check -b {self.size} a.img")
-        self.folder.check(f"blocks of {self.size}: {line}: it mounts", said[:2] == (0, ""), said)
+        self.folder.check(f"blocks of {self.size}: {line}: it mounts", said[:2] == (0, self.reported), said)
 
     def appends(self, line, commits, others=None, length=0, count=0):
         """Carries out a command that appends these items to these blocks, which are live then, and leaves these others."""

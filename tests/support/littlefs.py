@@ -127,6 +127,11 @@ class Reader:
         words = self.parts[0].entries[0].value
         return tuple(int.from_bytes(words[at:at + 4], "little") for at in (12, 16, 20))
 
+    def version(self):
+        """The disk version that the superblock states."""
+        words = self.parts[0].entries[0].value
+        return f"{int.from_bytes(words[2:4], 'little')}.{int.from_bytes(words[:2], 'little')}"
+
     def thread(self):
         """The pairs of the thread."""
         return [part.pair for part in self.parts]

@@ -180,7 +180,7 @@ class Run:
         reader, tree = self.now
         files = sum(held is not None for held, _ in tree.values())
         said = f"block {self.size}, count {len(reader.image) // self.size}, free {reader.free()}, "
-        said += f"directories {len(tree) - files}, files {files}\n"
+        said += f"directories {len(tree) - files}, files {files}, version 2.0\n"
         ended = self.ends("check")
         return "" if ended == (0, "", said) else f"check: {ended}, not {said}"
 

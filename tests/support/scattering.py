@@ -90,10 +90,10 @@ class Scattered:
         return log(revision, [item for items in self.commits(pair, behind, 0) for item in items])
 
     def beside(self, revision, is_first):
-        """What stands beside a live block of a revision, the first one or the second of its pair."""
+        """What stands beside a live block of a revision, the first one or the second of its pair. A torn log ends within its checksum."""
         newer, older = ((revision + step) % 2**32 for step in (1, -1))
         torn = log(newer, file(0, b"torn"))
-        logs = [log(older, file(0, b"old")), torn[:-1] + bytes([torn[-1] ^ 1]), b""]
+        logs = [log(older, file(0, b"old")), torn[:-2], b""]
         return self.chance.choice([*logs, log(revision, file(0, b"same"))] if is_first else logs)
 
     def write(self, pair, behind):

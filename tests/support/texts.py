@@ -33,7 +33,7 @@ def said(reader):
     """What `check` prints of an image that was read."""
     paths, count = reader.rows(), len(reader.image) // reader.size
     directories = sum(pair is not None for _, pair in paths)
-    counts = f"free {reader.free()}, directories {directories}, files {len(paths) - directories}"
+    counts = f"free {reader.free()}, directories {directories}, files {len(paths) - directories}, version {reader.version()}"
     return f"block {reader.size}, count {count}, {counts}\n".encode()
 
 

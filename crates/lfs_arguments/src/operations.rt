@@ -16,6 +16,7 @@ use crate::usage_error::{FORMAT, GROW, PACK, UsageError};
 use crate::viewing::view_of;
 use clap::ArgMatches;
 use lfs_command::Command;
+use lfs_fs::VERSION;
 use lfs_history::{Move, Source};
 use lfs_json::Form;
 use lfs_request::{Manner, Operation, Query, SourceImage, TreeChange, View};
@@ -32,7 +33,7 @@ fn question_of<'a>(
     ensures unsaid { IfErr result (λ usage_error. NamesCommand (Some (name.now, rows_of (found_of options.now))) → is_question name.now ≡ false) }
 {
     match name {
-        "check" => Ok(Query::Check),
+        "check" => Ok(Query::Check { version: VERSION }),
         "ls" => Ok(Query::Ls {
             path: path_or_root(options),
             digests: said(options, "sha256"),

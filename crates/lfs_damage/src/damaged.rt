@@ -80,7 +80,7 @@ fn is_damaged(by_device: bool, first: &[u8], second: &[u8]) -> bool
 }
 
 /// Whether an older state of a pair of an image is read, since a later commit is damaged: a damaged commit stands after the log of the live
-/// block, or at the front of the block with the later revision, where that has no commit. A block past the end is none.
+/// block, or at the front of the block with the later revision, if that has no commit. A block past the end is none.
 ///
 /// Source: littlefs disk version 2.1 for the commits; which are told of: own.
 pub fn is_damaged_pair(by_device: bool, image: &Image, pair: (u32, u32)) -> bool

@@ -225,7 +225,7 @@ pub fn question_of<'a, H: Host>(
     ensures kept { KeepsAll (H.known host.old) (H.known host.new) }
 {
     match *query {
-        Query::Check => Ok(Query::Check),
+        Query::Check { version } => Ok(Query::Check { version }),
         Query::Ls { path, digests } => Ok(Query::Ls { path, digests }),
         Query::Blocks { sums } => Ok(Query::Blocks { sums }),
         Query::Cat { path } => Ok(Query::Cat { path }),

@@ -27,7 +27,7 @@ pub fn kind_of_query<O>(query: &Query<'_, O>) -> StepKind
 {
     match query {
         Query::Log => StepKind::Recounts,
-        Query::Check
+        Query::Check { .. }
         | Query::Ls { .. }
         | Query::Blocks { .. }
         | Query::Cat { .. }

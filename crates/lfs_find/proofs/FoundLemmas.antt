@@ -1,5 +1,5 @@
 -- What is found at a place, and what is found from byte to byte.
-use Rattle.std.proofs.Common.{◌≡◌, ℕ, suc, ◌+◌, ◌-◌, ◌<◌, ◌≤◌, Bool, true, false, List, [], ◌∷◌, ◌++◌, length, Option, Some, None, Result, Ok, Err, IfOk, refl, ap, ap₂, subst, sym, ◌∙◌, arith, append_assoc, append-nil}
+use Rattle.std.proofs.Common.{◌≡◌, ℕ, suc, ◌+◌, ◌-◌, ◌<◌, ◌≤◌, Bool, true, false, List, [], ◌++◌, length, Option, Result, Ok, Err, IfOk, refl, ap, ap₂, subst, sym, ◌∙◌, arith, append_assoc, append-nil}
 use Rattle.std.specs.Prelude.{MatchBool, option_to_list}
 use Rattle.lfs_block.specs.Disk.{Disk, IsDisk, image_of}
 use Rattle.lfs_block.proofs.BytesLemmas.{image_of_disk}

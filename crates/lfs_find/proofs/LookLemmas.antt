@@ -1,9 +1,9 @@
 -- A byte that is looked at.
-use Rattle.std.proofs.Common.{◌≡◌, ℕ, ◌+◌, ◌*◌, ◌/◌, ◌<◌, ◌≤◌, Bool, true, leb, List, length, drop, Option, Some, None, refl, ap, sym, ◌∙◌, arith, length-drop}
+use Rattle.std.proofs.Common.{◌≡◌, ℕ, ◌+◌, ◌/◌, ◌<◌, ◌≤◌, true, leb, List, length, drop, Option, None, ap, ◌∙◌, arith, length-drop}
 use Rattle.std.specs.Prelude.{◌&&◌}
 use Rattle.std.proofs.lemmas.Bool.{and_parts, leb-true}
 use Rattle.std.specs.Int.{w32, from_le_bytes}
-use Rattle.lfs_find.specs.Found.{IsLooked, IsBest, costs, from_behind, listed, looks_at, places_at, search_behind, until_behind}
+use Rattle.lfs_find.specs.Found.{IsLooked, IsBest, costs, from_behind, listed, looks_at, places_at, until_behind}
 use Rattle.lfs_find.specs.Place.{is_first_word, log_begins}
 use Rattle.lfs_find.specs.Sizes.{may_look}
 use Rattle.lfs_find.specs.declared.found.Found.{Found}

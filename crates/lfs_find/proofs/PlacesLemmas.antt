@@ -1,6 +1,6 @@
 -- The places at a byte: the file has all of each, and they are few.
-use Rattle.std.proofs.Common.{◌≡◌, ℕ, ◌+◌, ◌-◌, ◌*◌, ◌/◌, ◌<◌, ◌≤◌, Bool, true, false, leb, List, [], ◌∷◌, ◌++◌, length, drop, Option, Some, None, refl, ap, subst, sym, ◌∙◌, arith, length-append, length-drop}
-use Rattle.std.specs.Prelude.{◌&&◌, nat_le, IfSome, MatchBool, flat_map, option_to_list, if◌then◌else◌}
+use Rattle.std.proofs.Common.{◌≡◌, ℕ, ◌+◌, ◌-◌, ◌*◌, ◌≤◌, Bool, true, false, leb, List, [], ◌∷◌, ◌++◌, length, drop, Option, Some, None, refl, subst, sym, arith, length-append, length-drop}
+use Rattle.std.specs.Prelude.{nat_le, IfSome, MatchBool, option_to_list, if◌then◌else◌}
 use Rattle.std.specs.List.{AllByRecursion}
 use Rattle.std.specs.Option.{option_or}
 use Rattle.std.proofs.lemmas.Bool.{and_parts, leb-true}
@@ -9,7 +9,7 @@ use Rattle.lfs_block.specs.Geometry.{is_geometry}
 use Rattle.lfs_block.proofs.GeometryTests.{geometry_true}
 use Rattle.lfs_lower.specs.Beginning.{begins_with}
 use Rattle.lfs_lower.specs.declared.told.Superblock.{Superblock}
-use Rattle.lfs_find.specs.Found.{IsBest, IsFoundAt, IsWithin, costs, end_of, extent, mounts, place_before, places_at, places_of}
+use Rattle.lfs_find.specs.Found.{IsBest, IsWithin, costs, extent, mounts, place_before, places_at, places_of}
 use Rattle.lfs_find.specs.Place.{fits_in, place_at, place_in}
 use Rattle.lfs_find.specs.declared.found.Found.{Found}
 use Rattle.lfs_find.specs.declared.place.Place.{Place}

@@ -4,7 +4,7 @@ use Rattle.std.specs.Prelude.{◌==◌, ◌&&◌, not, nat_lt, if◌then◌else�
 use Rattle.std.specs.List.{list_any}
 use Rattle.std.proofs.lemmas.Bool.Decides.{nat_tests}
 use Rattle.lfs_find.specs.Place.{log_begins}
-use Rattle.lfs_find.specs.Sizes.{log_size, may_look, sizes_from, sizes_stated, with_size}
+use Rattle.lfs_find.specs.Sizes.{log_size, may_look, sizes_from, with_size}
 
 module _ (bytes : List ℕ) (at spent : ℕ) (sizes : List ℕ) (within : at < length bytes) where
   byte_more : sizes_from bytes (length bytes - at) spent sizes

@@ -32,7 +32,7 @@ IsWithin bytes p = (end_of p ≤ length bytes) × (extent p ≤ 67108864)
 abbrev pub IsReadAt : List ℕ → Place → List ℕ → Type 0
 IsReadAt bytes p image = IsReadAs true p.size (take (extent p) (drop p.at bytes)) image
 
--- what is said of an image: nothing where it mounts, and else a fault that it has
+-- what is said of an image: nothing if it mounts, and else a fault that it has
 abbrev pub IsVerdict : Disk → Option Unmounted → Type 0
 IsVerdict d None = IsDisk d × (m : MountedValue) × IsMountOf d m
 IsVerdict d (Some (Image fault)) = IsNoImage fault d.size d.bytes
@@ -51,8 +51,8 @@ mounts (Some fault) = false
 
 -- ---- the best of several places
 
--- What is found at the first place that mounts, and else at the first one, which `first` is where some places were tried before; nothing
--- where there is none.
+-- What is found at the first place that mounts, and else at the first one, which is `first` if some places were tried before; nothing
+-- if there is none.
 abbrev pub IsBest : List ℕ → List Place → Option Found → Option Found → Type 0
 IsBest bytes [] first best = best ≡ first
 IsBest bytes (p ∷ ps) first best =
@@ -65,7 +65,7 @@ IsBest bytes (p ∷ ps) first best =
 abbrev pub place_before : List ℕ → ℕ → ℕ → ℕ → Option Place
 place_before bytes size from at = if nat_le (from + size) at then place_at bytes size (at - size) else None
 
--- the images whose first pair has a block of a size at a byte: as block 0, and else as block 1, where block 0 holds nothing
+-- the images whose first pair has a block of a size at a byte: as block 0, and else as block 1, if block 0 holds nothing
 abbrev pub places_of : List ℕ → ℕ → ℕ → ℕ → List Place
 places_of bytes from at size = option_to_list (place_at bytes size at) ++ option_to_list (place_before bytes size from at)
 
@@ -83,7 +83,7 @@ search_begun = record { from = 0; until = 0; spent = 0 }
 abbrev pub looks_at : List ℕ → Search → ℕ → Bool
 looks_at bytes s at = nat_le s.from at && log_begins (drop at bytes) && may_look at s.spent
 
--- it is listed: an image that mounts, and one that doesn't where no other one that is listed and doesn't mount has its first byte
+-- it is listed: an image that mounts, and one that doesn't if no other one that is listed and doesn't mount has its first byte
 abbrev pub is_listed : Search → Found → Bool
 is_listed s found = if mounts found.fault then true else nat_le s.until found.place.at
 
@@ -91,7 +91,7 @@ abbrev pub listed : Search → Option Found → Option Found
 listed s None = None
 listed s (Some found) = if is_listed s found then Some found else None
 
--- the search goes on behind what mounts
+-- the search goes on after what mounts
 abbrev pub from_behind : Search → Option Found → ℕ
 from_behind s None = s.from
 from_behind s (Some found) = if mounts found.fault then end_of found.place else s.from
@@ -105,7 +105,7 @@ abbrev pub costs : List Place → ℕ
 costs [] = 0
 costs (p ∷ ps) = extent p / 65536 + 1 + costs ps
 
--- behind a byte at which these places were tried, of which this is the best
+-- after a byte at which these places were tried, of which this is the best
 abbrev pub search_behind : Search → List Place → Option Found → Search
 search_behind s places best = record {
   from = from_behind s best;

@@ -1,5 +1,5 @@
 -- Where in a file an image may begin (own).
-use Rattle.std.specs.Prelude.{ℕ, ◌*◌, ◌≡◌, ◌==◌, ◌&&◌, ◌||◌, nat_le, Bool, List, length, drop, Option, Some, None, option_and_then, if◌then◌else◌}
+use Rattle.std.specs.Prelude.{ℕ, ◌*◌, ◌==◌, ◌&&◌, ◌||◌, nat_le, Bool, List, length, drop, Option, Some, None, option_and_then, if◌then◌else◌}
 use Rattle.std.specs.Int.{w32, from_le_bytes}
 use Rattle.lfs_block.specs.Geometry.{is_geometry}
 use Rattle.lfs_lower.specs.Beginning.{begins_with}
@@ -8,7 +8,7 @@ use Rattle.lfs_find.specs.declared.place.Place.{Place}
 
 -- ---- logs
 
--- what a device writes behind the revision of a first pair's log: the name of the superblock, the creation of its entry, or a hard tail
+-- what a device writes after the revision of a first pair's log: the name of the superblock, the creation of its entry, or a hard tail
 abbrev pub is_first_word : ℕ → Bool
 is_first_word word = (word == 0xf7ff0ff0) || (word == 0xffffefbf) || (word == 0xf703e09f)
 
@@ -22,7 +22,7 @@ log_begins bytes = nat_le 8 (length bytes) && is_first_word (from_le_bytes w32 (
 abbrev pub fits_in : ℕ → Superblock → Bool
 fits_in room s = is_geometry s.size s.count && nat_le (s.count * s.size) room
 
--- the place that a superblock states, where it fits in so many bytes
+-- the place that a superblock states, if it fits in so many bytes
 abbrev pub place_in : ℕ → ℕ → Superblock → Option Place
 place_in at room s = if fits_in room s then Some (record { at = at; version = s.version; size = s.size; count = s.count }) else None
 

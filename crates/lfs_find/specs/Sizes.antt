@@ -16,7 +16,7 @@ may_look at spent = nat_le spent (at / 256 + 4096)
 
 -- ---- sizes
 
--- the size that the superblock of the log with which bytes begin states, where blocks have it
+-- the size that the superblock of the log with which bytes begin states, if blocks have it
 abbrev pub size_of_superblock : Superblock → Option ℕ
 size_of_superblock s = if is_geometry s.size 2 then Some s.size else None
 
@@ -27,13 +27,13 @@ log_size bytes = option_and_then size_of_superblock (log_superblock bytes)
 abbrev pub most_sizes : ℕ
 most_sizes = 16
 
--- one size more, where it isn't there
+-- one size more, if it isn't there
 abbrev pub with_size : List ℕ → Option ℕ → List ℕ
 with_size sizes None = sizes
 with_size sizes (Some size) =
     if nat_lt (length sizes) most_sizes && not (list_any (λ s. s == size) sizes) then sizes ++ size ∷ [] else sizes
 
--- the sizes that the logs of a file state from a place on, with so many bytes left behind those that state `sizes`, and so much read there
+-- the sizes that the logs of a file state from a place on, with so many bytes left after those that state `sizes`, and so much read there
 abbrev pub sizes_from : List ℕ → ℕ → ℕ → List ℕ → List ℕ
 sizes_from bytes zero spent sizes = sizes
 sizes_from bytes (suc n) spent sizes =

@@ -11,7 +11,7 @@ use crate::search::{Search, costs};
 use crate::sizes::sizes_stated;
 use std::alloc::{AllocError, Global};
 
-/// What is found at a byte that is looked at, where it is listed, and how the search goes on.
+/// What is found at a byte that is looked at, if it is listed, and how the search goes on.
 fn look(
     alloc: Global,
     bytes: &[u8],

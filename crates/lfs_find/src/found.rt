@@ -8,6 +8,6 @@ use crate::unmounted::Unmounted;
 pub struct Found {
     /// The place.
     pub place: Place,
-    /// Why it does not mount; `None` where it does.
+    /// Why it does not mount; `None` if it does.
     pub fault: Option<Unmounted>,
 }

@@ -27,7 +27,7 @@ fn read_at(alloc: Global, bytes: &[u8], place: Place) -> Result<Vec<u8>, AllocEr
     read_as(alloc, true, place.size, image)
 }
 
-/// Why an image does not mount; `None` where it does.
+/// Why an image does not mount; `None` if it does.
 fn fault_of(alloc: Global, image: &Image) -> Result<Option<MountFault>, AllocError>
     ensures mounts { IfOk result (λ fault. IfNone fault ((m : MountedValue) × IsMountOf image.now.disk m)) }
     ensures cause { IfOk result (λ fault. IfSome fault (λ f. IsOfFormat f × HasCause image.now.disk f)) }
@@ -69,7 +69,7 @@ fn found_at(alloc: Global, bytes: &[u8], place: Place) -> Result<Found, AllocErr
     }
 }
 
-/// What is found at the first of these places that mounts, and else at the first one; `None` where there is none. Takes memory.
+/// What is found at the first of these places that mounts, and else at the first one; `None` if there is none. Takes memory.
 pub(crate) fn best_of(
     alloc: Global,
     bytes: &[u8],

@@ -10,7 +10,7 @@ use lfs_block::{geometry_ok, little_word};
 use lfs_lower::{Superblock, begins_with};
 use std::alloc::{AllocError, Global};
 
-/// Whether a word is one that a device writes behind the revision of a first pair's log.
+/// Whether a word is one that a device writes after the revision of a first pair's log.
 fn is_first_word(word: u32) -> bool
     ensures { result ≡ is_first_word word }
 {
@@ -24,7 +24,7 @@ pub(crate) fn log_begins(bytes: &[u8]) -> bool
     bytes.len() >= 8 && is_first_word(little_word(bytes.split_at(4).1))
 }
 
-/// The place that a superblock states, where it fits in so many bytes.
+/// The place that a superblock states, if it fits in so many bytes.
 fn place_in(at: usize, room: usize, stated: Superblock) -> Option<Place>
     ensures { result ≡ place_in at room stated }
 {
@@ -93,7 +93,7 @@ fn push_places(
     push_place(places, place_before(bytes, size, from, at))
 }
 
-/// The images whose first pair has a block at a byte, of one of these sizes, behind an image that ends at `from`.
+/// The images whose first pair has a block at a byte, of one of these sizes, after an image that ends at `from`.
 pub(crate) fn places_at(
     alloc: Global,
     bytes: &[u8],

@@ -11,7 +11,7 @@ use crate::sizes::may_look;
 /// Where the search for images in a file stands.
 #[derive(Clone, Copy)]
 pub(crate) struct Search {
-    /// The byte at which it goes on, behind what mounts.
+    /// The byte at which it goes on, after what mounts.
     pub(crate) from: usize,
     /// Where what is listed ends.
     pub(crate) until: usize,
@@ -76,14 +76,14 @@ impl Search {
         log_begins(rest) && may_look(at, self.spent)
     }
 
-    /// Whether what is found is listed: where it mounts, and where nothing that is listed has its first byte.
+    /// Whether what is found is listed: it mounts, or nothing that is listed has its first byte.
     pub(crate) fn lists(&self, found: &Found) -> bool
         ensures { result ≡ is_listed self.now found.now }
     {
         found.fault.is_none() || self.until <= found.place.at
     }
 
-    /// Goes on behind what is found.
+    /// Goes on after what is found.
     pub(crate) fn pass(&mut self, found: &Found)
         requires { end_of found.now.place < 2 ^ 64 }
         ensures from { self.new.from ≡ from_behind self.old (Some found.now) }

@@ -33,7 +33,7 @@ fn has_log(bytes: &[u8], at: usize, spent: usize) -> bool
     log_begins(rest) && may_look(at, spent)
 }
 
-/// The size that the superblock of the log with which bytes begin states, where blocks have it.
+/// The size that the superblock of the log with which bytes begin states, if blocks have it.
 fn log_size(bytes: &[u8]) -> Option<u32>
     ensures { result ≡ log_size bytes.now }
 {
@@ -52,7 +52,7 @@ fn has_size(sizes: &[u32], size: u32) -> bool
     sizes.iter().any(|known| *known == size)
 }
 
-/// Adds a size, where it isn't there and there is room.
+/// Adds a size, if it isn't there and there is room.
 fn add_size(sizes: &mut Vec<u32>, size: Option<u32>) -> Result<(), AllocError>
     ensures { OnOk result (sizes.new.items ≡ with_size sizes.old.items size) }
 {

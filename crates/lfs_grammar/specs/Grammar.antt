@@ -297,7 +297,7 @@ program_commands =
     making_command (codes "format") (count ∷ size ∷ [])
     ∷ making_command (codes "pack") (word (codes "dir") ∷ count ∷ size ∷ flag (codes "least") ∷ [])
     ∷ repack
-    ∷ (command (codes "find") (word (codes "flash") ∷ [])).top
+    ∷ (command (codes "find") (word (codes "flash") ∷ device ∷ [])).top
     ∷ asking (codes "extract") (word (codes "dir") ∷ path_or_root ∷ [])
     ∷ asking (codes "salvage") (word (codes "dir") ∷ [])
     ∷ asking (codes "check") (json ∷ [])

@@ -101,7 +101,7 @@ static COMMANDS: [CommandRow; 25] = [
         name: "find",
         about: "List where in a file images begin, with what they state and whether they mount",
         usage: None,
-        arguments: &[Argument::Flash],
+        arguments: &[Argument::Flash, Argument::Device],
     },
     CommandRow {
         name: "extract",

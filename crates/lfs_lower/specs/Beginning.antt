@@ -18,17 +18,17 @@ use Rattle.lfs_lower.specs.declared.told.Told.{Told}
 abbrev pub log_told : List ℕ → Stated
 log_told block = stated_in (later_commits block)
 
--- the first of two where it has a commit, else the second
+-- the first of two if it has a commit, else the second
 abbrev pub there_or : Stated → Stated → Stated
 there_or a b = if a.is_there then a else b
 
--- what the live block of two tells: the one with the later revision, where it has a commit, and else the other
+-- what the live block of two tells: the one with the later revision, if it has a commit, and else the other
 abbrev pub live_told : List ℕ → List ℕ → Stated
 live_told first second =
     if is_later (revision second) (revision first) then there_or (log_told second) (log_told first)
     else there_or (log_told first) (log_told second)
 
--- what a pair of an image tells: nothing where there is no pair, or a block stands past the end
+-- what a pair of an image tells: nothing if there is no pair, or a block stands past the end
 abbrev pub told_at : Disk → Option Pair → Told
 told_at d None = told_nothing
 told_at d (Some p) =
@@ -40,11 +40,11 @@ told_at d (Some p) =
 abbrev pub superblock_in : Told → Option Superblock
 superblock_in t = if t.is_named then t.superblock else None
 
--- the pair behind one that holds a superblock alone, or nothing, in the same directory
+-- the pair after one that holds a superblock alone, or nothing, in the same directory
 abbrev pub lead : Told → Option Pair
 lead t = if t.is_alone then t.next else None
 
--- the last superblock of so many pairs, each of which leads to the next, where `before` is that of the pairs in front of them
+-- the last superblock of so many pairs, each of which leads to the next, where `before` is that of the pairs before them
 abbrev pub last_along : Disk → ℕ → Option Superblock → Option Pair → Option Superblock
 last_along d zero before from = before
 last_along d (suc n) before from = last_along d n (option_or (superblock_in (told_at d from)) before) (lead (told_at d from))
@@ -60,7 +60,7 @@ unfoldable pub superblock_of : ℕ → List ℕ → Option Superblock
 superblock_of size bytes =
     last_along (image_of size bytes) most_superblocks None (Some root)
 
--- the same, where it states this size
+-- the same, if it states this size
 abbrev pub stating : ℕ → Option Superblock → Option Superblock
 stating size None = None
 stating size (Some s) = if s.size == size then Some s else None

@@ -37,7 +37,7 @@ told_other so_far word = record {
 abbrev pub told_tail : Told → Option (ℕ × ℕ) → Told
 told_tail so_far next = record { superblock = so_far.superblock; is_named = so_far.is_named; next = next; is_alone = so_far.is_alone }
 
--- What a tag tells, behind others: an inline struct of 24 bytes of entry 0 is a superblock's, and so is the name of 8 bytes of type 0x0ff;
+-- What a tag tells, after others: an inline struct of 24 bytes of entry 0 is a superblock's, and so is the name of 8 bytes of type 0x0ff;
 -- a hard tail goes on in the pair that it names. The entry is alone while no other has a tag.
 abbrev pub told_by : Told → Item → Told
 told_by so_far t =

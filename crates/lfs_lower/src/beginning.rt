@@ -31,7 +31,7 @@ fn log_told(block: &[u8]) -> Stated
     stated_from(crc32(CHECKSUM_START, number), FIRST_WORD, bytes)
 }
 
-/// The first of two where it has a commit, else the second.
+/// The first of two if it has a commit, else the second.
 fn there_or(a: Stated, b: Stated) -> Stated
     ensures { result ≡ there_or a b }
 {
@@ -64,7 +64,7 @@ fn block_of(bytes: &[u8], size: u32, number: u32) -> &[u8]
     &bytes[start..start + size as usize]
 }
 
-/// What a pair of it tells: nothing where there is no pair, or a block stands past the end.
+/// What a pair of it tells: nothing if there is no pair, or a block stands past the end.
 fn told_at(bytes: &[u8], size: u32, pair: Option<(u32, u32)>) -> Told
     requires { IsBlockSize size }
     ensures { result ≡ told_at (image_of size bytes.now) pair }
@@ -89,7 +89,7 @@ fn superblock_in(told: Told) -> Option<Superblock>
     if told.is_named { told.superblock } else { None }
 }
 
-/// The pair behind one that holds a superblock alone, or nothing, in the same directory.
+/// The pair after one that holds a superblock alone, or nothing, in the same directory.
 fn lead(told: Told) -> Option<(u32, u32)>
     ensures { result ≡ lead told }
 {
@@ -97,7 +97,7 @@ fn lead(told: Told) -> Option<(u32, u32)>
 }
 
 /// What the last superblock states of the image of blocks of `size` bytes with which bytes begin: of those along hard tails through pairs
-/// that hold a superblock alone, or nothing, the last one counts. `None` where there is none.
+/// that hold a superblock alone, or nothing, the last one counts. `None` if there is none.
 fn superblock_of(size: u32, bytes: &[u8]) -> Option<Superblock>
     requires { IsBlockSize size }
     ensures { result ≡ superblock_of size bytes.now }
@@ -115,7 +115,7 @@ fn superblock_of(size: u32, bytes: &[u8]) -> Option<Superblock>
 // ---- images
 
 /// What the last superblock states of the image of blocks of `size` bytes with which bytes begin: blocks have this size, and it is the
-/// one that is stated. `None` where no such image begins so. Whether it mounts isn't looked at.
+/// one that is stated. `None` if no such image begins so. Whether it mounts isn't looked at.
 ///
 /// Source: littlefs disk version 2.1; at most 16 pairs are looked at for a superblock (own).
 pub fn begins_with(size: u32, bytes: &[u8]) -> Option<Superblock>
@@ -132,7 +132,7 @@ pub fn begins_with(size: u32, bytes: &[u8]) -> Option<Superblock>
     }
 }
 
-/// The least size of a block, in bytes, in which an image begins with the bytes, by the commits that version 2.1 reads. `None` where no
+/// The least size of a block, in bytes, in which an image begins with the bytes, by the commits that version 2.1 reads. `None` if no
 /// image begins so. Whether it mounts isn't looked at.
 pub fn size_of(bytes: &[u8]) -> Option<u32>
     ensures { IsSize bytes.now result }
@@ -149,7 +149,7 @@ pub fn size_of(bytes: &[u8]) -> Option<u32>
 
 // ---- logs alone
 
-/// What the superblock states of the log with which bytes begin, whatever the size of its block is; `None` where it has none.
+/// What the superblock states of the log with which bytes begin, whatever the size of its block is; `None` if it has none.
 pub fn log_superblock(bytes: &[u8]) -> Option<Superblock>
     ensures { result ≡ log_superblock bytes.now }
 {

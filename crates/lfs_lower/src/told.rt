@@ -102,7 +102,7 @@ fn told_by_other(so_far: Told, tag: Tag) -> Told
     }
 }
 
-/// What a tag tells, behind others.
+/// What a tag tells, after others.
 pub(crate) fn told_by(so_far: Told, found: Found<'_>) -> Told
     requires { length found.content.now ≡ data_len (word_of found.tag) }
     ensures { result ≡ told_by so_far (tag_found found.entry).item }

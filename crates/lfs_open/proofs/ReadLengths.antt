@@ -1,11 +1,9 @@
 -- Bytes that are read of others are no more than these.
 use Rattle.std.proofs.Common.{◌≡◌, ◌∙◌, ◌≤◌, ◌*◌, ◌/◌, ◌%◌, ℕ, Bool, true, false, List, Option, Some, None, ap, arith, inl, inr, length}
-use Rattle.std.proofs.Common.{length-take, min, option_map, subst, sym, take}
+use Rattle.std.proofs.Common.{length-take, min, subst, sym, take}
 use Rattle.std.proofs.Math.Nat.{mul-mod_left}
-use Rattle.std.proofs.lemmas.Option.{same_Some}
-use Rattle.std.specs.Global.{Vec}
 use Rattle.std.specs.Option.{option_map_or}
-use Rattle.std.specs.Prelude.{◌==◌, IfSome, if◌then◌else◌}
+use Rattle.std.specs.Prelude.{◌==◌, if◌then◌else◌}
 use Rattle.lfs_block.specs.Disk.{Disk, IsDisk, image_of}
 use Rattle.lfs_block.specs.Geometry.{IsGeometry}
 use Rattle.lfs_block.specs.ImageFault.{IsNoImage}
@@ -76,16 +74,6 @@ read_long (Some place) by_device size old new (complete, read, own) =
     omega arith
 
 -- ---- bytes that are kept
-
--- they are no fewer, where they are kept
-pub kept_long : (by_device : Bool) (own : Option (Vec ℕ)) (bytes image : List ℕ)
-    → option_map (λ (kept : Vec ℕ). kept.items) own ≡ (if by_device then Some bytes else None) → length image ≤ length bytes
-    → IfSome own (λ (kept : Vec ℕ). length image ≤ length kept.items)
-kept_long by_device None bytes image is long = tt
-kept_long true (Some kept) bytes image is long =
-    let same : kept.items ≡ bytes = same_Some _ _ is in
-    subst (λ (xs : List ℕ). length image ≤ length xs) (sym same) long
-kept_long false (Some kept) bytes image is long = absurd (cc)
 
 -- those that are as many as the bytes of an image are one
 pub like_no_fault : (d : Disk) (bytes : List ℕ) (fault : ImageFault) → IsDisk d → length bytes ≡ length d.bytes

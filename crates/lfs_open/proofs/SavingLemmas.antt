@@ -12,11 +12,10 @@ use Rattle.lfs_host.specs.Scene.{HasRefused, Scene}
 use Rattle.lfs_host.specs.declared.host_kind.HostKind.TheVariants.{Missing}
 use Rattle.lfs_request.specs.declared.fault.Fault.{Fault}
 use Rattle.lfs_request.specs.declared.fault.Fault.TheVariants.{Mount, Refused, CannotRead, HostEntry}
-use Rattle.lfs_salvage.specs.Losses.{has_loss}
 use Rattle.lfs_salvage.specs.Saved.{SavesAll, StopsSaving}
 use Rattle.lfs_salvage.specs.declared.saved.Saved.{Saved}
 use Rattle.lfs_open.specs.Extracting.{FindsFolder, fault_of_extracting}
-use Rattle.lfs_open.specs.Salvaging.{EndsSaving, IsOther}
+use Rattle.lfs_open.specs.Salvaging.{EndsSaving, IsOther, misses}
 
 -- ---- faults that aren't that an image doesn't mount
 
@@ -73,15 +72,15 @@ module _ (d e : Disk) (cause : MountFault) (dir : List ℕ) (tree : Option HostT
       → EndsSaving d e cause dir tree old new ended
   saving_told ended fault is ends = subst (EndsSaving d e cause dir tree old new) (sym is) ends
 
-  -- all is saved, and something is lost or not
+  -- all is saved, and something is missed or not
   pub all_saved : (s : Saved) (ended : Option Fault) → IsKind tree dir Missing → SavesAll d e dir old new.made s
-      → ended ≡ (if has_loss s then Some (Mount cause) else None) → EndsSaving d e cause dir tree old new ended
-  all_saved s ended missing saves is = go (has_loss s) refl is
+      → ended ≡ (if misses d s then Some (Mount cause) else None) → EndsSaving d e cause dir tree old new ended
+  all_saved s ended missing saves is = go (misses d s) refl is
     where
-      go : (b : Bool) → has_loss s ≡ b → ended ≡ (if b then Some (Mount cause) else None) → EndsSaving d e cause dir tree old new ended
-      go true loses is =
+      go : (b : Bool) → misses d s ≡ b → ended ≡ (if b then Some (Mount cause) else None) → EndsSaving d e cause dir tree old new ended
+      go true missed is =
           subst (EndsSaving d e cause dir tree old new) (sym is)
-          (refl, record { missing = missing; what = s; saved = saves; loses_is = loses })
-      go false loses is =
+          (refl, record { missing = missing; what = s; saved = saves; missed_is = missed })
+      go false missed is =
           subst (EndsSaving d e cause dir tree old new) (sym is)
-          (record { missing = missing; what = s; saved = saves; loses_is = loses })
+          (record { missing = missing; what = s; saved = saves; missed_is = missed })

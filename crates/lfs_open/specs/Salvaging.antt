@@ -1,5 +1,5 @@
 -- What is saved of an image, which needn't mount, in a new folder of the host (own).
-use Rattle.std.specs.Prelude.{◌≡◌, ◌⊎◌, ℕ, Bool, true, false, List, [], Option, Some, None, is_some, length, take, unwrap_or}
+use Rattle.std.specs.Prelude.{◌≡◌, ◌⊎◌, ◌||◌, ℕ, Bool, true, false, List, [], Option, Some, None, length, take}
 use Rattle.lfs_block.specs.Disk.{Disk, IsDisk, image_of}
 use Rattle.lfs_block.specs.ImageFault.{IsNoImage}
 use Rattle.lfs_block.specs.declared.mount_fault.MountFault.{MountFault}
@@ -15,27 +15,35 @@ use Rattle.lfs_host.specs.declared.host_kind.HostKind.TheVariants.{Missing}
 use Rattle.lfs_lower.specs.Through.{IsLoweredThrough}
 use Rattle.lfs_request.specs.View.{start_of}
 use Rattle.lfs_request.specs.declared.fault.Fault.{Fault}
-use Rattle.lfs_request.specs.declared.fault.Fault.TheVariants.{Image, Mount, Refused, CannotRead, CannotWrite, HostEntry}
-use Rattle.lfs_request.specs.declared.manner.Manner.{Manner}
+use Rattle.lfs_request.specs.declared.fault.Fault.TheVariants.{Image, Mount, DamagedCommit, Refused, CannotRead, CannotWrite, HostEntry}
+use Rattle.lfs_request.specs.declared.view.View.{View}
 use Rattle.lfs_salvage.specs.Losses.{has_loss}
 use Rattle.lfs_salvage.specs.Saved.{SavesAll, StopsSaving}
 use Rattle.lfs_salvage.specs.declared.saved.Saved.{Saved}
+use Rattle.lfs_survey.specs.Damaged.{has_older}
+use Rattle.lfs_survey.specs.Survey.{IsSurvey}
+use Rattle.lfs_survey.specs.declared.survey.Survey.{Survey}
 use Rattle.lfs_exchange.specs.Handing.{IsUnread, most_image}
 use Rattle.lfs_open.specs.Extracting.{EndsMaking, FindsFolder}
-use Rattle.lfs_open.specs.Later.{later_alone, refused_by}
-use Rattle.lfs_open.specs.ReadBy.{IsReadBy}
+use Rattle.lfs_open.specs.ReadBy.{IsReadFrom}
+
+-- An image is read as a device does. Its file's own bytes are the image d; e is that with each block lowered, in which its pairs are read.
 
 -- ---- an image that doesn't mount
 
+-- something isn't saved as it was last: it is lost, or an older state of a pair is saved, since a later commit is damaged
+abbrev pub misses : Disk → Saved → Bool
+misses d saved = has_loss saved || has_older true d saved.areas.items
+
 -- nothing is there under the folder's name, all that can be read is saved in it, of files in one image and of pairs in another, and
--- something is lost or not
-pub record SavesImage (d e : Disk) (dir : List ℕ) (tree : Option HostTree) (old new : Option (List Made)) (loses : Bool) : Type 0 where
+-- something is missed or not
+pub record SavesImage (d e : Disk) (dir : List ℕ) (tree : Option HostTree) (old new : Option (List Made)) (missed : Bool) : Type 0 where
   pub missing : IsKind tree dir Missing
   pub what : Saved
   pub saved : SavesAll d e dir old new what
-  pub loses_is : has_loss what ≡ loses
+  pub missed_is : misses d what ≡ missed
 
--- what is saved of it, by the fault that it ends with: that for which it doesn't mount, where something is lost
+-- what is saved of it, by the fault that it ends with: that for which it doesn't mount, if something is missed
 abbrev pub EndsSaving : Disk → Disk → MountFault → List ℕ → Option HostTree → Option (List Made) → Scene → Option Fault → Type 0
 EndsSaving d e cause dir tree old new None = SavesImage d e dir tree old new.made false
 EndsSaving d e cause dir tree old new (Some (Mount fault)) = (fault ≡ cause) × SavesImage d e dir tree old new.made true
@@ -47,41 +55,51 @@ EndsSaving d e cause dir tree old new (Some (Refused r)) =
     (r ≡ refusal.Memory) × ((new.made ≡ old) ⊎ (IsKind tree dir Missing × StopsSaving d e dir old new.made extracting.Memory))
 EndsSaving d e cause dir tree old new _ = ⊥
 
--- ---- bytes
-
--- the images in which files and pairs are read: both are the one that is read; or where it is read as a device does the one that is so long
--- of the file's own bytes, and this with each block lowered
-abbrev pub AreReadIn : Bool → ℕ → List ℕ → List ℕ → Disk → Disk → Type 0
-AreReadIn false size bytes image d e = (d ≡ image_of size image) × (e ≡ d)
-AreReadIn true size bytes image d e = (d ≡ image_of size (take (length image) bytes)) × IsLoweredThrough d e
+-- ---- an image that mounts
 
 -- a fault isn't that an image doesn't mount
 abbrev pub IsOther : Option Fault → Type 0
 IsOther (Some (Mount fault)) = ⊥
 IsOther _ = Unit {0}
 
--- what is saved of an image that is read of these bytes: it mounts, and a folder is made of it as of any; or it doesn't, for a cause
-abbrev pub EndsSalvaged : Bool → ℕ → List ℕ → List ℕ → List ℕ → Option HostTree → Option (List Made) → Scene → Option Fault → Type 0
-EndsSalvaged by_device size bytes image dir tree old new (Some (Image fault)) = IsNoImage fault size image × (new.made ≡ old)
-EndsSalvaged by_device size bytes image dir tree old new fault =
-    IsDisk (image_of size image)
-    × ((IsOther fault × EndsMaking (image_of size image) (path_text []) dir tree old new fault)
-    ⊎ ((cause : MountFault) × IsOfFormat cause × HasCause (image_of size image) cause
-    × ((d : Disk) × (e : Disk) × AreReadIn by_device size bytes image d e × EndsSaving d e cause dir tree old new fault)))
+-- a survey of its pairs finds an older state of one, or none
+abbrev pub FindsOlder : Disk → Disk → Bool → Type 0
+FindsOlder d e found = (s : Survey) × IsSurvey e s × (has_older true d s.areas.items ≡ found)
 
--- the same of an image where its file's own bytes are kept if it is read as a device does
-abbrev pub EndsKept : Option (List ℕ) → ℕ → List ℕ → List ℕ → Option HostTree → Option (List Made) → Scene → Option Fault → Type 0
-EndsKept own size image dir tree old new fault = EndsSalvaged (is_some own) size (unwrap_or own []) image dir tree old new fault
+-- a folder is made of it, as of any; and it ends well only if no older state of a pair is found
+abbrev pub EndsWhole : Disk → Disk → Disk → List ℕ → Option HostTree → Option (List Made) → Scene → Option Fault → Type 0
+EndsWhole i d e dir tree old new None = FindsOlder d e false × EndsMaking i (path_text []) dir tree old new None
+EndsWhole i d e dir tree old new (Some DamagedCommit) = FindsOlder d e true × EndsMaking i (path_text []) dir tree old new None
+EndsWhole i d e dir tree old new (Some (Mount fault)) = ⊥
+EndsWhole i d e dir tree old new (Some fault) = EndsMaking i (path_text []) dir tree old new (Some fault)
+
+-- ---- bytes
+
+-- what is saved of the image i that is read of those: it mounts, and a folder is made of it; or it doesn't, for a cause
+abbrev pub EndsImage : Disk → Disk → Disk → List ℕ → Option HostTree → Option (List Made) → Scene → Option Fault → Type 0
+EndsImage i d e dir tree old new fault =
+    EndsWhole i d e dir tree old new fault
+    ⊎ ((cause : MountFault) × IsOfFormat cause × HasCause i cause × EndsSaving d e cause dir tree old new fault)
+
+-- the image of a file's own bytes, as many as are read, and that with each block lowered
+abbrev pub AreOwn : ℕ → List ℕ → List ℕ → Disk → Disk → Type 0
+AreOwn size bytes image d e = (d ≡ image_of size (take (length image) bytes)) × IsLoweredThrough d e
+
+-- what is saved of bytes of which these are read: they are no image; or memory is wanting for those with each block lowered; or as of an image
+abbrev pub EndsSalvaged : ℕ → List ℕ → List ℕ → List ℕ → Option HostTree → Option (List Made) → Scene → Option Fault → Type 0
+EndsSalvaged size bytes image dir tree old new (Some (Image fault)) = IsNoImage fault size image × (new.made ≡ old)
+EndsSalvaged size bytes image dir tree old new fault =
+    IsDisk (image_of size image)
+    × (((fault ≡ Some (Refused refusal.Memory)) × (new.made ≡ old))
+    ⊎ ((d : Disk) × (e : Disk) × AreOwn size bytes image d e × EndsImage (image_of size image) d e dir tree old new fault))
 
 -- ---- an image's file
 
--- what is saved of an image's file: nothing where it isn't read, in its manner; else as of its bytes; files and what was printed stay
-abbrev pub EndsSalvage : Manner → ℕ → List ℕ → List ℕ → Scene → Scene → Option Fault → Type 0
-EndsSalvage manner size name dir old new fault =
+-- what is saved of an image's file: nothing if it isn't read; else as of its bytes, which are read as a device does; files and what was
+-- printed stay
+abbrev pub EndsSalvage : View → ℕ → List ℕ → List ℕ → Scene → Scene → Option Fault → Type 0
+EndsSalvage view size name dir old new fault =
     KeepsScene old new
     × (((new.made ≡ old.made) × ((why : Fault) × (fault ≡ Some why) × IsUnread new why))
-    ⊎ ((bytes : List ℕ) × ReadsFrom old.files name (start_of manner.view) most_image bytes
-    × (((new.made ≡ old.made) × ((why : Fault) × (fault ≡ Some why) × (refused_by manner (later_alone size bytes) ≡ Some why)))
-    ⊎ ((refused_by manner (later_alone size bytes) ≡ None)
-    × ((image : List ℕ) × IsReadBy manner.view size bytes image
-    × EndsSalvaged manner.view.by_device size bytes image dir old.tree old.made new fault)))))
+    ⊎ ((bytes : List ℕ) × ReadsFrom old.files name (start_of view) most_image bytes
+    × ((image : List ℕ) × IsReadFrom view.offset true size bytes image × EndsSalvaged size bytes image dir old.tree old.made new fault)))

@@ -1,36 +1,60 @@
 //! What is saved of an image, which needn't mount, in a new folder of the host.
 
-ghost use Rattle.std.specs.Prelude.{◌≡◌, ◌≤◌, IfErr, IfOk, IfSome, None, Some, if◌then◌else◌, length, true};
-ghost use Rattle.std.specs.Option.{option_map};
+ghost use Rattle.std.specs.Prelude.{◌≡◌, ◌≤◌, IfErr, IfOk, None, Some, if◌then◌else◌, length, true};
 ghost use Rattle.lfs_block.specs.Disk.{IsDisk, image_of};
 ghost use Rattle.lfs_block.specs.declared.mount_fault.MountFault.{MountFault};
 ghost use Rattle.lfs_fs.specs.Cause.{HasCause, IsOfFormat};
+ghost use Rattle.lfs_fs.specs.Mounted.{IsMountOf};
 ghost use Rattle.lfs_host.specs.HostTree.{IsKind};
 ghost use Rattle.lfs_host.specs.Scene.{KeepsFiles};
 ghost use Rattle.lfs_host.specs.declared.host_kind.HostKind.TheVariants.{Missing};
+ghost use Rattle.lfs_lower.specs.Through.{IsLoweredThrough};
 ghost use Rattle.lfs_report.specs.Stop.{stopped_by};
 ghost use Rattle.lfs_request.specs.declared.fault.Fault.TheVariants.{Mount};
-ghost use Rattle.lfs_salvage.specs.Losses.{has_loss};
 ghost use Rattle.lfs_salvage.specs.Saved.{SavesAll};
-ghost use Rattle.lfs_open.specs.Salvaging.{AreReadIn, EndsKept, EndsSalvage, EndsSaving};
+ghost use Rattle.lfs_open.specs.ReadBy.{IsReadFrom};
+ghost use Rattle.lfs_open.specs.Salvaging.{AreOwn, EndsImage, EndsSalvage, EndsSalvaged, EndsSaving, EndsWhole, FindsOlder, misses};
 
 use crate::extracting::{extract_mounted, fault_of_extracting, must_be_missing};
-use crate::later::pass_alone;
 use crate::viewing::read_by;
 use lfs_block::{Blocks, Image, MountFault};
 use lfs_exchange::{StepKind, taken_up};
-use lfs_fs::mount;
+use lfs_fs::{Mounted, mount};
 use lfs_host::Host;
 use lfs_lower::lower_all;
 use lfs_report::{Context, Sight, Stop, stop_of_image, stop_of_salvaging};
-use lfs_request::{Fault, Manner, Request, View};
+use lfs_request::{Fault, Request, View};
 use lfs_salvage::{Saved, salvage_lines, save_image};
-use lfs_survey::Found;
+use lfs_survey::{Found, has_older, older_lines, older_places, survey_all};
 use std::alloc::{AllocError, Global};
 
-/// Makes a folder of the host with all that can still be read of an image's file, as the image is looked at: where the image mounts, the
-/// folder that is made of any. What commits of a later version stand in it is put into `context`, and what is saved of one that doesn't
-/// mount. Takes memory.
+/// Bytes of an image's file, from its place on.
+#[derive(Drop)]
+struct HeldBytes {
+    /// The size of a block.
+    size: u32,
+    /// The file's own bytes.
+    own: Vec<u8>,
+    /// Those of the image, as a device reads them.
+    read: Vec<u8>,
+}
+
+/// An image that is salvaged.
+#[derive(Drop)]
+struct Reading {
+    /// It, as a device reads it.
+    image: Image,
+    /// The image of its file's own bytes.
+    disk: Image,
+    /// That with each block lowered.
+    parts: Image,
+    /// What is seen of its bytes.
+    seen: Sight,
+}
+
+/// Makes a folder of the host with all that can still be read of an image's file, which is read as a device does: if the image mounts, the
+/// folder that is made of any. It ends well only if nothing that is named is lost, and no older state of a pair is saved. What is told of
+/// it is put into `context`. Takes memory.
 pub fn salvaged<H: Host>(
     alloc: Global,
     host: &mut H,
@@ -39,113 +63,80 @@ pub fn salvaged<H: Host>(
     view: View,
     dir: &str,
 ) -> Result<(), Stop>
-    ensures made { EndsSalvage (record { takes_older = request.now.takes_older; view = view }) request.now.size request.now.image.now
-        dir.now (H.known host.old) (H.known host.new) (stopped_by result) }
+    ensures made { EndsSalvage view request.now.size request.now.image.now dir.now (H.known host.old) (H.known host.new) (stopped_by result) }
     ensures kept { KeepsFiles (H.known host.old) (H.known host.new) }
 {
     let handed = taken_up(alloc, host, StepKind::Asks, view.start(), request.image)?;
-    let manner = Manner {
-        takes_older: request.takes_older,
-        view,
+    context.by_device = true;
+    let own = Vec::from_slice(alloc, &handed.image)?;
+    let read = read_by_device(alloc, view, request.size, handed.image)?;
+    let held = HeldBytes {
+        size: request.size,
+        own,
+        read,
     };
-    pass_alone(manner, request.size, &handed.image, context)?;
-    let own = own_bytes(alloc, view.by_device, &handed.image)?;
-    let image = read_by(alloc, view, request.size, handed.image)?;
-    salvage_bytes(alloc, host, request.size, context, own, image, dir)
+    salvage_bytes(alloc, host, context, held, dir)
 }
 
-/// A copy of the bytes of an image's file, where the image is read as a device does.
-fn own_bytes(alloc: Global, by_device: bool, bytes: &[u8]) -> Result<Option<Vec<u8>>, AllocError>
-    ensures { IfOk result (λ own. option_map (λ kept. kept.items) own ≡ (if by_device then Some bytes.now else None)) }
+/// Bytes of an image's file, from its place on, as a device reads them.
+fn read_by_device(
+    alloc: Global,
+    view: View,
+    size: u32,
+    bytes: Vec<u8>,
+) -> Result<Vec<u8>, AllocError>
+    ensures { IfOk result (λ read. IsReadFrom view.offset true size bytes.items read.items) }
 {
-    if by_device {
-        return Ok(Some(Vec::from_slice(alloc, bytes)?));
-    }
-    Ok(None)
+    let as_device = View {
+        by_device: true,
+        offset: view.offset,
+    };
+    read_by(alloc, as_device, size, bytes)
 }
 
 /// Makes a folder with all that can still be read of bytes that are an image.
 fn salvage_bytes<H: Host>(
     alloc: Global,
     host: &mut H,
-    size: u32,
     context: &mut Context,
-    own: Option<Vec<u8>>,
-    bytes: Vec<u8>,
+    held: HeldBytes,
     dir: &str,
 ) -> Result<(), Stop>
-    requires { IfSome own (λ kept. length bytes.items ≤ length kept.items) }
-    ensures made { EndsKept (option_map (λ kept. kept.items) own) size bytes.items dir.now
+    requires { length held.read.items ≤ length held.own.items }
+    ensures made { EndsSalvaged held.size held.own.items held.read.items dir.now
         (H.known host.old).tree (H.known host.old).made (H.known host.new) (stopped_by result) }
     ensures kept { KeepsFiles (H.known host.old) (H.known host.new) }
 {
-    let seen = Sight::of(size, &bytes);
-    match Image::new(bytes, size) {
-        Ok(image) => salvage_seen(alloc, host, context, seen, own, &image, dir),
-        Err((fault, bytes)) => Err(stop_of_image(Fault::Image(fault), size, &bytes)),
+    let HeldBytes { size, own, read } = held;
+    let seen = Sight::of(size, &read);
+    match Image::new(read, size) {
+        Ok(image) => {
+            let reading = reading_of(alloc, seen, own, image)?;
+            salvage_image(alloc, host, context, &reading, dir)
+        }
+        Err((fault, read)) => Err(stop_of_image(Fault::Image(fault), size, &read)),
     }
 }
 
-/// Makes a folder with all that can still be read of an image, of which this is seen.
-fn salvage_seen<H: Host>(
-    alloc: Global,
-    host: &mut H,
-    context: &mut Context,
-    seen: Sight,
-    own: Option<Vec<u8>>,
-    image: &Image,
-    dir: &str,
-) -> Result<(), Stop>
-    requires disk { IsDisk image.now.disk }
-    requires long { IfSome own (λ kept. length image.now.disk.bytes ≤ length kept.items) }
-    ensures made { EndsKept (option_map (λ kept. kept.items) own) image.now.disk.size image.now.disk.bytes dir.now
-        (H.known host.old).tree (H.known host.old).made (H.known host.new) (stopped_by result) }
-    ensures kept { KeepsFiles (H.known host.old) (H.known host.new) }
+/// An image of which this is seen, with those of its file's own bytes.
+fn reading_of(alloc: Global, seen: Sight, own: Vec<u8>, image: Image) -> Result<Reading, AllocError>
+    requires { length image.disk.bytes ≤ length own.items }
+    ensures image { IfOk result (λ reading. reading.image.disk ≡ image.disk) }
+    ensures own { IfOk result (λ reading. AreOwn image.disk.size own.items image.disk.bytes reading.disk.disk reading.parts.disk) }
 {
-    match mount(alloc, image) {
-        Ok(mounted) => Ok(extract_mounted(alloc, host, image, &mounted, b"/", &mut None, dir)?),
-        Err(MountFault::Memory) => Err(Stop::from(AllocError)),
-        Err(cause) => salvage_image(alloc, host, context, cause, seen, own, image, dir),
-    }
-}
-
-/// Makes a folder with all that can still be read of an image that doesn't mount for this cause. Where the file's own bytes are kept, its
-/// files are those of the image of these, and its pairs those of that image with each block lowered.
-fn salvage_image<H: Host>(
-    alloc: Global,
-    host: &mut H,
-    context: &mut Context,
-    cause: MountFault,
-    seen: Sight,
-    own: Option<Vec<u8>>,
-    image: &Image,
-    dir: &str,
-) -> Result<(), Stop>
-    requires disk { IsDisk image.now.disk }
-    requires format { IsOfFormat cause }
-    requires cause { HasCause image.now.disk cause }
-    requires long { IfSome own (λ kept. length image.now.disk.bytes ≤ length kept.items) }
-    ensures made { EndsKept (option_map (λ kept. kept.items) own) image.now.disk.size image.now.disk.bytes dir.now
-        (H.known host.old).tree (H.known host.old).made (H.known host.new) (stopped_by result) }
-    ensures kept { KeepsFiles (H.known host.old) (H.known host.new) }
-{
-    match own {
-        None => {
-            let saved = save_new(alloc, host, image, image, dir)?;
-            ended(alloc, context, cause, seen, image, image, saved)
-        }
-        Some(own) => {
-            let (disk, parts) = own_images(alloc, own, image)?;
-            let saved = save_new(alloc, host, &disk, &parts, dir)?;
-            ended(alloc, context, cause, seen, image, &disk, saved)
-        }
-    }
+    let (disk, parts) = own_images(alloc, own, &image)?;
+    Ok(Reading {
+        image,
+        disk,
+        parts,
+        seen,
+    })
 }
 
 /// The image of a file's own bytes that is as long as the one that is read of them, and a copy of it with each block lowered.
 fn own_images(alloc: Global, own: Vec<u8>, image: &Image) -> Result<(Image, Image), AllocError>
     requires { length image.now.disk.bytes ≤ length own.items }
-    ensures { IfOk result (λ read. AreReadIn true image.now.disk.size own.items image.now.disk.bytes read.0.disk read.1.disk) }
+    ensures { IfOk result (λ read. AreOwn image.now.disk.size own.items image.now.disk.bytes read.0.disk read.1.disk) }
 {
     let mut own = own;
     own.truncate((image.size() * image.count()) as usize);
@@ -163,6 +154,77 @@ fn image_like(image: &Image, bytes: Vec<u8>) -> Image
         unreachable!();
     };
     made
+}
+
+/// Makes a folder with all that can still be read of an image.
+fn salvage_image<H: Host>(
+    alloc: Global,
+    host: &mut H,
+    context: &mut Context,
+    reading: &Reading,
+    dir: &str,
+) -> Result<(), Stop>
+    ensures made { EndsImage reading.now.image.disk reading.now.disk.disk reading.now.parts.disk dir.now
+        (H.known host.old).tree (H.known host.old).made (H.known host.new) (stopped_by result) }
+    ensures kept { KeepsFiles (H.known host.old) (H.known host.new) }
+{
+    match mount(alloc, &reading.image) {
+        Ok(mounted) => salvage_mounted(alloc, host, context, reading, &mounted, dir),
+        Err(MountFault::Memory) => Err(Stop::from(AllocError)),
+        Err(cause) => salvage_unmounted(alloc, host, context, reading, cause, dir),
+    }
+}
+
+/// Makes a folder of an image that doesn't mount for this cause.
+fn salvage_unmounted<H: Host>(
+    alloc: Global,
+    host: &mut H,
+    context: &mut Context,
+    reading: &Reading,
+    cause: MountFault,
+    dir: &str,
+) -> Result<(), Stop>
+    requires format { IsOfFormat cause }
+    requires cause { HasCause reading.now.image.disk cause }
+    ensures made { EndsImage reading.now.image.disk reading.now.disk.disk reading.now.parts.disk dir.now
+        (H.known host.old).tree (H.known host.old).made (H.known host.new) (stopped_by result) }
+    ensures kept { KeepsFiles (H.known host.old) (H.known host.new) }
+{
+    let saved = save_new(alloc, host, &reading.disk, &reading.parts, dir)?;
+    ended(alloc, context, cause, reading, saved)
+}
+
+/// Makes a folder of an image that mounts so. If an older state of a pair is found, it ends with `DamagedCommit`.
+fn salvage_mounted<H: Host>(
+    alloc: Global,
+    host: &mut H,
+    context: &mut Context,
+    reading: &Reading,
+    mounted: &Mounted,
+    dir: &str,
+) -> Result<(), Stop>
+    requires mounted { IsMountOf reading.now.image.disk mounted.now }
+    ensures made { EndsWhole reading.now.image.disk reading.now.disk.disk reading.now.parts.disk dir.now
+        (H.known host.old).tree (H.known host.old).made (H.known host.new) (stopped_by result) }
+    ensures kept { KeepsFiles (H.known host.old) (H.known host.new) }
+{
+    let (is_older, lines) = find_older(alloc, &reading.disk, &reading.parts)?;
+    extract_mounted(alloc, host, &reading.image, mounted, b"/", &mut None, dir)?;
+    if is_older {
+        context.lines = lines;
+        return Err(Stop::from(Fault::DamagedCommit));
+    }
+    Ok(())
+}
+
+/// Whether an older state of a pair is found, with what is told of each.
+fn find_older(alloc: Global, disk: &Image, parts: &Image) -> Result<(bool, Vec<String>), AllocError>
+    ensures { IfOk result (λ found. FindsOlder disk.now.disk parts.now.disk found.0) }
+{
+    let survey = survey_all(alloc, parts)?;
+    let places = older_places(alloc, true, disk, &survey)?;
+    let lines = older_lines(alloc, &survey, &places)?;
+    Ok((has_older(true, disk, &survey.areas), lines))
 }
 
 /// Saves all that can still be read of an image, of files in `disk` and of pairs in `parts`, unless something is there under the folder's
@@ -187,44 +249,42 @@ fn save_new<H: Host>(
     }
 }
 
-/// How it ends that this was saved of an image that doesn't mount for this cause, with files as they stand in `disk`: with the cause where
-/// something is lost. What is told of it is put into `context`.
+/// How it ends that this was saved of an image that doesn't mount for this cause: with the cause if something is missed. What is told of it is put into `context`.
 fn ended(
     alloc: Global,
     context: &mut Context,
     cause: MountFault,
-    seen: Sight,
-    image: &Image,
-    disk: &Image,
+    reading: &Reading,
     saved: Saved,
 ) -> Result<(), Stop>
-    ensures { stopped_by result ≡ (if has_loss saved then Some (Mount cause) else None) }
+    ensures { stopped_by result ≡ (if misses reading.now.disk.disk saved then Some (Mount cause) else None) }
 {
-    let end = end_of(alloc, cause, seen, image, &saved);
+    let end = end_of(alloc, cause, reading, &saved);
     if end.is_ok() {
         context.unmounted = Some(cause);
     }
-    if let Ok(lines) = salvage_lines(alloc, disk, saved) {
+    if let Ok(lines) = salvage_lines(alloc, &reading.disk, saved) {
         context.lines = lines;
     }
     end
 }
 
 /// The end itself.
-fn end_of(
-    alloc: Global,
-    cause: MountFault,
-    seen: Sight,
-    image: &Image,
-    saved: &Saved,
-) -> Result<(), Stop>
-    ensures { stopped_by result ≡ (if has_loss saved.now then Some (Mount cause) else None) }
+fn end_of(alloc: Global, cause: MountFault, reading: &Reading, saved: &Saved) -> Result<(), Stop>
+    ensures { stopped_by result ≡ (if misses reading.now.disk.disk saved.now then Some (Mount cause) else None) }
 {
-    if saved.has_loss() {
+    if misses(&reading.disk, saved) {
         let is_read = is_front_read(saved);
-        return Err(stop_of_salvaging(alloc, cause, image, is_read, seen));
+        return Err(stop_of_salvaging(alloc, cause, &reading.image, is_read, reading.seen));
     }
     Ok(())
+}
+
+/// Whether something isn't saved as it was last: it is lost, or an older state of a pair is saved, since a later commit is damaged.
+fn misses(disk: &Image, saved: &Saved) -> bool
+    ensures { result ≡ misses disk.now.disk saved.now }
+{
+    saved.has_loss() || has_older(true, disk, &saved.areas)
 }
 
 /// Whether a part is found at the pair with which an image begins.

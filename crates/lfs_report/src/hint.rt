@@ -10,19 +10,16 @@ const VERSION: u32 = 0x0002_0001;
 /// of it; nothing where the request says so already.
 pub(crate) fn hint_of(request: &Request<'_>) -> Option<&'static str> {
     match &request.operation {
-        Operation::Ask { view, .. }
-        | Operation::Extract { view, .. }
-        | Operation::Salvage { view, .. }
-            if view.by_device => None,
+        Operation::Ask { view, .. } | Operation::Extract { view, .. } if view.by_device => None,
+        Operation::Salvage { .. } => None,
         Operation::Repack { source, .. } if source.manner.view.by_device => None,
         Operation::Ask {
             query: Query::Log,
             ..
         } => Some("repack --device"),
-        Operation::Ask { .. }
-        | Operation::Extract { .. }
-        | Operation::Salvage { .. }
-        | Operation::Repack { .. } => { Some("--device") }
+        Operation::Ask { .. } | Operation::Extract { .. } | Operation::Repack { .. } => {
+            Some("--device")
+        }
         _ => Some("repack --device"),
     }
 }

@@ -11,7 +11,7 @@ use Rattle.lfs_history.specs.declared.step_fault.StepFault.{StepFault}
 use Rattle.lfs_history.specs.declared.step_fault.StepFault.TheVariants.{Refused as Refused_step, RefusedAt}
 use Rattle.lfs_history.specs.Faults.{step_fault_number}
 use Rattle.lfs_request.specs.declared.fault.Fault.{Fault}
-use Rattle.lfs_request.specs.declared.fault.Fault.TheVariants.{Image, Mount, Refused, Step, JournalFormat, JournalMismatch, JournalImage, CannotRead, CannotWrite, HostEntry, HostName, BadHex, BadLine, Other, Differ}
+use Rattle.lfs_request.specs.declared.fault.Fault.TheVariants.{Image, Mount, DamagedCommit, Refused, Step, JournalFormat, JournalMismatch, JournalImage, CannotRead, CannotWrite, HostEntry, HostName, BadHex, BadLine, Other, Differ}
 use Rattle.lfs_request.specs.declared.other_fault.OtherFault.{OtherFault}
 use Rattle.lfs_request.specs.declared.other_fault.OtherFault.TheVariants as other
 
@@ -25,6 +25,7 @@ other_fault_number other.CannotRead = 60
 abbrev pub fault_number : Fault → ℕ
 fault_number (Image fault) = image_fault_number fault
 fault_number (Mount fault) = mount_fault_number fault
+fault_number DamagedCommit = 22
 fault_number (Refused refusal) = refusal_number refusal
 fault_number (Step fault) = step_fault_number fault
 fault_number JournalFormat = 50
@@ -48,7 +49,7 @@ abbrev pub status_of_number : ℕ → ℕ
 status_of_number number =
     if number == 0 || is_in_range 30 43 number || number == 46 || is_in_range 53 55 number then 1
     else (if is_in_range 64 65 number then 2
-    else (if is_in_range 1 21 number || is_in_range 50 52 number then 3
+    else (if is_in_range 1 22 number || is_in_range 50 52 number then 3
     else 4))
 
 -- 0 is done

@@ -15,6 +15,8 @@ pub enum Fault {
     Image(ImageFault),
     /// The image does not mount.
     Mount(MountFault),
+    /// The image mounts, but in an older state, since a later commit is damaged.
+    DamagedCommit,
     /// The change is refused, or a growth of memory was.
     Refused(Refusal),
     /// The step is refused for what was done before it.
@@ -54,6 +56,7 @@ impl Fault {
         match self {
             Fault::Image(fault) => fault.number(),
             Fault::Mount(fault) => fault.number(),
+            Fault::DamagedCommit => 22,
             Fault::Refused(refusal) => refusal.number(),
             Fault::Step(fault) => fault.number(),
             Fault::JournalFormat => 50,
@@ -78,7 +81,7 @@ impl Fault {
         match self.number() {
             0 | 30..=43 | 46 | 53..=55 => 1,
             64 | 65 => 2,
-            1..=21 | 50..=52 => 3,
+            1..=22 | 50..=52 => 3,
             _ => 4,
         }
     }
@@ -88,6 +91,7 @@ impl Fault {
         match self {
             Fault::Image(fault) => fault.name(),
             Fault::Mount(fault) => fault.name(),
+            Fault::DamagedCommit => "DamagedCommit",
             Fault::Refused(refusal) => refusal.name(),
             Fault::Step(fault) => fault.name(),
             Fault::JournalFormat => "JournalFormat",

@@ -4,7 +4,10 @@
 #[derive(Clone, Copy, Drop)]
 pub enum Query<'a, O> {
     /// Whether it mounts, and what it holds in numbers.
-    Check,
+    Check {
+        /// The disk version that is told of it, with its major number in the upper half; once the image is read, that which it states.
+        version: u32,
+    },
     /// What stands at a path, and at each one below it.
     Ls {
         /// The text of the path.

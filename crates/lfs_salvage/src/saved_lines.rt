@@ -6,12 +6,12 @@ use crate::pair_losses::{add_lost_area, add_lost_pairs, add_other_pairs};
 use crate::salvage::Salvage;
 use crate::saved::Saved;
 use lfs_block::{Blocks, Image};
-use lfs_survey::{Lines, Owners, Survey};
+use lfs_survey::{Lines, Owners, Survey, older_lines, older_places};
 use std::alloc::{AllocError, Global};
 
-/// What is told of what is saved of an image: a line for each pair and each file that is lost, then one for each that is saved under
-/// another path, and for each area to which no path leads, where it is saved. Of either at most a hundred, and how many more there are.
-/// Takes memory.
+/// What is told of what is saved of an image, whose file's own bytes these are: a line for each pair and each file that is lost, one for
+/// each pair of which an older state is saved, then one for each that is saved under another path, and for each area to which no path leads,
+/// where it is saved. Of each kind at most a hundred, and how many more there are. Takes memory.
 pub fn salvage_lines(
     alloc: Global,
     image: &Image,
@@ -23,6 +23,9 @@ pub fn salvage_lines(
         looked: Vec::new(alloc),
     };
     let mut lines = losses(alloc, image, &survey, &salvage)?;
+    let older = older_places(alloc, true, image, &survey)?;
+    let mut older = older_lines(alloc, &survey, &older)?;
+    lines.append(&mut older)?;
     let mut more = others(alloc, &survey, &salvage)?;
     lines.append(&mut more)?;
     Ok(lines)

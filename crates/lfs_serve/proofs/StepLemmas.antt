@@ -6,7 +6,9 @@ use Rattle.lfs_request.specs.declared.fault.Fault.TheVariants.{Refused, CannotWr
 use Rattle.lfs_request.specs.declared.manner.Manner.{Manner}
 use Rattle.lfs_request.specs.View.{start_of}
 use Rattle.lfs_request.specs.declared.outcome.Outcome.{Outcome}
+use Rattle.lfs_json.specs.declared.form.Form.{Form}
 use Rattle.lfs_step.specs.declared.step.Step.{Step}
+use Rattle.lfs_step.specs.declared.step.Step.TheVariants.{Ask}
 use Rattle.lfs_step.specs.Outcome.{Answers, SendsText, given}
 use Rattle.lfs_request.specs.Query.{Question}
 use Rattle.lfs_request.specs.declared.query.Query.{Query}
@@ -24,7 +26,7 @@ use Rattle.lfs_open.specs.Later.{refused_by}
 use Rattle.lfs_serve.specs.LaterRead.{later_read}
 use Rattle.lfs_open.specs.ReadBy.{IsReadBy, WantsMemory, IsAskedBy}
 use Rattle.lfs_exchange.specs.Printing.{HandsOn}
-use Rattle.lfs_serve.specs.Program.{EndsStep, RunsStep, StopsStep, is_answered}
+use Rattle.lfs_serve.specs.Program.{EndsStep, RunsStep, StopsStep, TellsVersion, is_answered}
 
 -- ---- the file that a name leads to
 
@@ -107,14 +109,16 @@ handed_at kind name s h place start same is = subst (λ (at : ℕ). IsHanded kin
 
 -- ---- questions
 
-asked_kind : (by_device : Bool) (old new : Question) → IsAskedBy by_device old new → kind_of_query new ≡ kind_of_query old
-asked_kind by_device (Diff other size quiet) (Diff read read_size is_quiet) is = refl
-asked_kind by_device (Diff other size quiet) _ is = absurd is
-asked_kind by_device old new is = ap (λ (q : Question). kind_of_query q) is
+asked_kind : (by_device : Bool) (size : ℕ) (image : List ℕ) (old new : Question) → IsAskedBy by_device size image old new
+    → kind_of_query new ≡ kind_of_query old
+asked_kind by_device size image (Check version) new is = ap (λ (q : Question). kind_of_query q) is
+asked_kind by_device size image (Diff other other_size quiet) (Diff read read_size is_quiet) is = refl
+asked_kind by_device size image (Diff other other_size quiet) _ is = absurd is
+asked_kind by_device size image old new is = ap (λ (q : Question). kind_of_query q) is
 
 hands_kind : (files : Option Files) (query : Query (Bor (List ℕ))) (asked : Question) → HandsQuestion files query asked
     → kind_of_query asked ≡ kind_of_query query
-hands_kind files Check Check is = refl
+hands_kind files (Check version) (Check same) is = refl
 hands_kind files (Ls path digests) (Ls same_path same_digests) is = refl
 hands_kind files (Blocks sums) (Blocks same) is = refl
 hands_kind files (Cat path) (Cat text) is = refl
@@ -123,23 +127,42 @@ hands_kind files Log Log is = refl
 hands_kind files _ _ is = absurd is
 
 -- with its other image in hand, and as that is read, a question is of the same kind
-pub question_kind : (files : Option Files) (by_device : Bool) (query : Query (Bor (List ℕ))) (asked question : Question)
-    → HandsQuestion files query asked → IsAskedBy by_device asked question → kind_of_query question ≡ kind_of_query query
-question_kind files by_device query asked question hands reads = asked_kind by_device asked question reads ∙ hands_kind files query asked hands
+pub question_kind : (files : Option Files) (by_device : Bool) (size : ℕ) (image : List ℕ) (query : Query (Bor (List ℕ)))
+    (asked question : Question) → HandsQuestion files query asked → IsAskedBy by_device size image asked question
+    → kind_of_query question ≡ kind_of_query query
+question_kind files by_device size image query asked question hands reads =
+    asked_kind by_device size image asked question reads ∙ hands_kind files query asked hands
+
+-- it tells the version of the bytes of which it is asked
+pub question_tells : (by_device : Bool) (size : ℕ) (image : List ℕ) (form : Form) (asked question : Question)
+    → IsAskedBy by_device size image asked question → TellsVersion (Ask question form) by_device size image
+question_tells by_device size image form (Diff old other_size quiet) (Diff new new_size is_quiet) is = tt
+question_tells by_device size image form (Diff old other_size quiet) _ is = absurd is
+question_tells by_device size image form (Check version) question is =
+    subst (λ (q : Question). TellsVersion (Ask q form) by_device size image) (sym is) refl
+question_tells by_device size image form (Ls path digests) question is =
+    subst (λ (q : Question). TellsVersion (Ask q form) by_device size image) (sym is) tt
+question_tells by_device size image form (Blocks sums) question is =
+    subst (λ (q : Question). TellsVersion (Ask q form) by_device size image) (sym is) tt
+question_tells by_device size image form (Cat path) question is =
+    subst (λ (q : Question). TellsVersion (Ask q form) by_device size image) (sym is) tt
+question_tells by_device size image form Log question is =
+    subst (λ (q : Question). TellsVersion (Ask q form) by_device size image) (sym is) tt
 
 -- ---- runs
 
 -- a step that ran on what it was handed, as it was read; nothing was printed behind it
 pub step_ran : (step : Step) (manner : Manner) (size : ℕ) (name : List ℕ) (old new : Scene) (h : HandedBytes) (image : List ℕ)
     (fault : Option Fault) (after : Option (List ℕ)) (outcome : Outcome) → IsHanded (kind_of step) (start_of manner.view) name old h
-    → refused_by manner (later_read step size h.image) ≡ None → IsReadBy manner.view size h.image image
+    → refused_by manner (later_read step size h.image) ≡ None → TellsVersion step manner.view.by_device size h.image → IsReadBy manner.view size h.image image
     → Answers step (given size image h.journal) outcome → outcome.fault ≡ fault
     → SendsText step (given size image h.journal) fault old.printed after → new.printed ≡ after → IsBlamed fault new
     → RunsStep step manner size name old new fault outcome
-step_ran step manner size name old new h image fault after outcome is none reads answers fault_is sends last blamed = record {
+step_ran step manner size name old new h image fault after outcome is none tells reads answers fault_is sends last blamed = record {
   bytes = h;
   handed = is;
   not_later = none;
+  tells = tells;
   image = image;
   read = reads;
   answers = answers;
@@ -212,6 +235,7 @@ runs_from step manner size name mid old new fault outcome files printed runs = r
   bytes = runs.bytes;
   handed = handed_from (kind_of step) (start_of manner.view) name mid old runs.bytes files runs.handed;
   not_later = runs.not_later;
+  tells = runs.tells;
   image = runs.image;
   read = runs.read;
   answers = runs.answers;

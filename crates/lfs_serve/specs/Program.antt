@@ -6,6 +6,7 @@ use Rattle.lfs_request.specs.declared.manner.Manner.{Manner}
 use Rattle.lfs_request.specs.declared.outcome.Outcome.{Outcome}
 use Rattle.lfs_request.specs.Fault.{status_of}
 use Rattle.lfs_request.specs.Query.{Question}
+use Rattle.lfs_request.specs.declared.query.Query.TheVariants.{Check}
 use Rattle.lfs_request.specs.View.{start_of, complete_view}
 use Rattle.lfs_history.specs.Filling.{bytes_given}
 use Rattle.lfs_history.specs.Meaning.{step_by, step_of}
@@ -34,12 +35,17 @@ use Rattle.lfs_open.specs.Extracting.{EndsExtract}
 use Rattle.lfs_open.specs.HostFolder.{PacksFolder, ReadsNoFolder}
 use Rattle.lfs_open.specs.Later.{refused_by}
 use Rattle.lfs_serve.specs.LaterRead.{later_read}
-use Rattle.lfs_open.specs.ReadBy.{IsAskedBy, IsReadBy, WantsMemory}
+use Rattle.lfs_open.specs.ReadBy.{IsAskedBy, IsReadBy, WantsMemory, told_version}
 use Rattle.lfs_open.specs.Repacking.{PacksSource, RefusesSource}
 use Rattle.lfs_open.specs.Salvaging.{EndsSalvage}
 use Rattle.lfs_serve.specs.Trees.{BecomesChange, IsNotReadFor, IsReadFirst, change_reads_input}
 
 -- ---- a step
+
+-- a check tells the disk version of the image with which these bytes begin
+abbrev pub TellsVersion : Step → Bool → ℕ → List ℕ → Type 0
+TellsVersion (step.Ask (Check version) form) by_device size image = version ≡ told_version by_device size image
+TellsVersion _ by_device size image = Unit {0}
 
 -- `run` was handed what is known of an image's files, in which nothing was to be refused as later, read in a manner; it answered this
 -- outcome, and said so much of it.
@@ -48,6 +54,7 @@ pub record RunsStep (step : Step) (manner : Manner) (size : ℕ) (name : List �
   pub bytes : HandedBytes
   pub handed : IsHanded (kind_of step) (start_of manner.view) name old bytes
   pub not_later : refused_by manner (later_read step size bytes.image) ≡ None
+  pub tells : TellsVersion step manner.view.by_device size bytes.image
   pub image : List ℕ
   pub read : IsReadBy manner.view size bytes.image image
   pub answers : Answers step (given size image bytes.journal) outcome
@@ -93,7 +100,8 @@ BecomesStep (Pack extent limits dir) size s (step.Pack count stated rows) =
     PacksFolder s.tree dir.now rows.now × IsExtent size limits rows.now extent count × (stated ≡ limits)
 BecomesStep (Repack source extent said) size s (step.Pack count stated rows) = PacksSource source extent said size s.files count stated rows.now
 BecomesStep (Ask query form view) size s (step.Ask question said) =
-    (handed : Question) × HandsQuestion s.files query handed × IsAskedBy view.by_device handed question × (said ≡ form)
+    (handed : Question) × (image : List ℕ) × HandsQuestion s.files query handed × IsAskedBy view.by_device size image handed question
+    × (said ≡ form)
 BecomesStep Forget size s step.Forget = ⊤
 BecomesStep (Change move) size s (step.Change steps) =
     (read : List ℕ) × HandsInput move s.files s.typed read × (map step_of steps.now ≡ step_by (bytes_given read) move ∷ [])
@@ -145,7 +153,7 @@ abbrev pub EndsOperation : Operation → Bool → ℕ → List ℕ → Scene →
 EndsOperation (Extract dir path view) older size name old new fault =
     EndsExtract (record { takes_older = older; view = view }) size name path.now dir.now old new fault
 EndsOperation (Salvage dir view) older size name old new fault =
-    EndsSalvage (record { takes_older = older; view = view }) size name dir.now old new fault
+    EndsSalvage view size name dir.now old new fault
 EndsOperation operation older size name old new fault =
     ((step : Step) × BecomesStep operation size old step × EndsStep step (manner_of operation (may_take_older step && older)) size name old new fault)
     ⊎ (KeepsScene old new × ((why : Fault) × (fault ≡ Some why) × IsNotBegun operation name old new why))

@@ -4,6 +4,7 @@
 mod batching;
 mod later_read;
 mod laws;
+mod noting;
 mod packing;
 mod plain_operations;
 mod repacking;

@@ -59,7 +59,7 @@ pub(crate) fn queried<H: Host>(
         request.image,
     )?;
     let asked = question_of(alloc, host, query)?;
-    let question = asked_by(alloc, view.by_device, asked)?;
+    let question = asked_by(alloc, view.by_device, request.size, &handed.image, asked)?;
     let manner = Manner {
         takes_older: request.takes_older,
         view,

@@ -1,6 +1,6 @@
 //! A step on an image's file.
 
-ghost use Rattle.std.specs.Prelude.{◌≡◌, ◌⊎◌, ◌&&◌, IfErr, IfOk, OnOk, string_bytes};
+ghost use Rattle.std.specs.Prelude.{◌≡◌, ◌⊎◌, ◌&&◌, IfErr, IfOk, OnOk, false, string_bytes};
 ghost use Rattle.lfs_exchange.specs.Handing.{IsClaimed, IsHanded};
 ghost use Rattle.lfs_serve.specs.StepKind.{kind_of};
 ghost use Rattle.lfs_host.specs.Files.{IsTarget};
@@ -13,9 +13,10 @@ ghost use Rattle.lfs_request.specs.View.{start_of};
 ghost use Rattle.lfs_step.specs.Outcome.{Answers, SendsText, given};
 ghost use Rattle.lfs_step.specs.Step.{IsStepInRange, may_take_older};
 ghost use Rattle.lfs_open.specs.Blamed.{IsBlamed};
-ghost use Rattle.lfs_serve.specs.Program.{EndsStep, as_it_is};
+ghost use Rattle.lfs_serve.specs.Program.{EndsStep, TellsVersion, as_it_is};
 
 use crate::later_read::pass_step;
+use crate::noting::note_step;
 use crate::seeing::seen_of;
 use lfs_exchange::{Handed, Output, StepKind, flush, stored};
 use lfs_host::Host;
@@ -52,6 +53,7 @@ pub(crate) fn stepped<H: Host>(
     requires claimed { IsClaimed handed.kind (H.known host.old) (string_bytes handed.target) }
     requires handed { IsHanded handed.kind 0 request.now.image.now (H.known host.old)
         (record { image = handed.image.items; journal = handed.journal.items }) }
+    requires tells { TellsVersion step false request.now.size handed.image.items }
     ensures ended { EndsStep step.entry (as_it_is (may_take_older step.entry && request.now.takes_older)) request.now.size request.now.image.now
         (H.known host.old) (H.known host.new) (stopped_by result) }
     ensures typed { (H.known host.new).typed ≡ (H.known host.old).typed }
@@ -82,12 +84,14 @@ pub(crate) fn stepped_in<H: Host>(
     requires claimed { IsClaimed handed.kind (H.known host.old) (string_bytes handed.target) }
     requires handed { IsHanded handed.kind (start_of manner.view) request.now.image.now (H.known host.old)
         (record { image = handed.image.items; journal = handed.journal.items }) }
+    requires tells { TellsVersion step manner.view.by_device request.now.size handed.image.items }
     ensures ended { EndsStep step.entry manner request.now.size request.now.image.now
         (H.known host.old) (H.known host.new) (stopped_by result) }
     ensures typed { (H.known host.new).typed ≡ (H.known host.old).typed }
     ensures made { (H.known host.new).made ≡ (H.known host.old).made }
 {
     pass_step(manner, &step, request.size, &handed.image, context)?;
+    note_step(alloc, manner, &step, request.size, &handed.image, context);
     let Handed {
         kind,
         target,

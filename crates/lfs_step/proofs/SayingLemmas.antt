@@ -24,12 +24,12 @@ text_refused q form d text (Err f) false is answer =
     subst (λ (x : Fault). RefusesReport q form d x) (sym (ap (λ (o : Option Fault). unwrap_or o f) is)) (text, answer)
 
 -- of a summary it went out, or a beginning of it
-summary_went : (form : Form) (d : Disk) (text : List ℕ) (complete : Bool) (old new : Option (List ℕ)) → IsAnswer Check form d text → Sends complete old new text
-    → SendsReport Check form d (if complete then None else Some CannotWrite) old new
-summary_went form d text true old new answer sends = (text, answer, sends)
-summary_went form d text false old new answer sends = (text, answer, sends)
+summary_went : (version : ℕ) (form : Form) (d : Disk) (text : List ℕ) (complete : Bool) (old new : Option (List ℕ)) → IsAnswer (Check version) form d text → Sends complete old new text
+    → SendsReport (Check version) form d (if complete then None else Some CannotWrite) old new
+summary_went version form d text true old new answer sends = (text, answer, sends)
+summary_went version form d text false old new answer sends = (text, answer, sends)
 
-pub summary_sent : (form : Form) (d : Disk) (text : List ℕ) (r : Result (Unit {0}) Fault) (complete : Bool) (old new : Option (List ℕ)) → EndsAs r complete
-    → IsAnswer Check form d text → Sends complete old new text → SendsReport Check form d (result_err r) old new
-summary_sent form d text r complete old new is answer sends =
-    subst (λ (f : Option Fault). SendsReport Check form d f old new) (sym is) (summary_went form d text complete old new answer sends)
+pub summary_sent : (version : ℕ) (form : Form) (d : Disk) (text : List ℕ) (r : Result (Unit {0}) Fault) (complete : Bool) (old new : Option (List ℕ)) → EndsAs r complete
+    → IsAnswer (Check version) form d text → Sends complete old new text → SendsReport (Check version) form d (result_err r) old new
+summary_sent version form d text r complete old new is answer sends =
+    subst (λ (f : Option Fault). SendsReport (Check version) form d f old new) (sym is) (summary_went version form d text complete old new answer sends)

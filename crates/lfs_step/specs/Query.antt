@@ -28,7 +28,8 @@ blocks_text form false mounted = block_map form mounted.outline mounted.rows
 
 -- the text that answers a query of an image alone, which mounts, in a form
 abbrev pub IsAnswer : Question → Form → Disk → List ℕ → Type 0
-IsAnswer Check form disk text = (mounted : MountedValue) × IsMountOf disk mounted × (text ≡ summary_text form disk mounted)
+IsAnswer (Check version) form disk text =
+    (mounted : MountedValue) × IsMountOf disk mounted × (text ≡ summary_text form version disk mounted)
 IsAnswer (Ls path digests) form disk text = IsListing form digests disk path.now text
 IsAnswer (Blocks sums) form disk text =
     (mounted : MountedValue) × IsMountOf disk mounted × (text ≡ blocks_text form sums mounted)

@@ -78,7 +78,7 @@ fn report<S: Sink>(
     ensures disk { image.new.disk ≡ image.old.disk }
 {
     match query {
-        Query::Check => say_summary(alloc, form, image, out),
+        Query::Check { version } => say_summary(alloc, form, version, image, out),
         Query::Ls { path, digests } => {
             say_listing(alloc, form, digests, image, path, place, out)
         }
@@ -98,17 +98,23 @@ fn said_form(quiet: bool, form: Form) -> Option<Form>
     if quiet { None } else { Some(form) }
 }
 
-/// Says what an image holds, in one line. What was mounted isn't given back to the allocator, since the program ends behind its answer:
+/// Says what an image of this disk version holds, in one line. What was mounted isn't given back to the allocator, since the program ends behind its answer:
 /// to give names back one by one takes a tenth of the time of a check.
-fn say_summary<S: Sink>(alloc: Global, form: Form, image: &Image, out: &mut S) -> Result<(), Fault>
+fn say_summary<S: Sink>(
+    alloc: Global,
+    form: Form,
+    version: u32,
+    image: &Image,
+    out: &mut S,
+) -> Result<(), Fault>
     requires { S.failed out.old ≡ false }
-    ensures refused { IfErr result (λ fault. RefusesReport Check form image.now.disk fault) }
-    ensures sent { SendsReport Check form image.now.disk (result_err result) (S.sent out.old) (S.sent out.new) }
+    ensures refused { IfErr result (λ fault. RefusesReport (Check version) form image.now.disk fault) }
+    ensures sent { SendsReport (Check version) form image.now.disk (result_err result) (S.sent out.old) (S.sent out.new) }
     ensures failed { S.failed out.new ≡ blames_output (result_err result) }
     ensures kept { S.kept out.new ≡ S.kept out.old }
 {
     let mounted = mount(alloc, image)?;
-    let line = summary_text(alloc, form, image, &mounted)?;
+    let line = summary_text(alloc, form, version, image, &mounted)?;
     forget(mounted);
     sent_complete(send(out, &line))
 }

@@ -3,16 +3,16 @@
 ghost use Rattle.std.specs.Prelude.{◌≡◌, IfOk, string_bytes};
 ghost use Rattle.lfs_json.specs.Line.{line_of};
 ghost use Rattle.lfs_json.specs.Summary.{json_of_summary};
-ghost use Rattle.lfs_step.specs.Summary.{summary, summary_of, summary_text};
+ghost use Rattle.lfs_step.specs.Summary.{counts, summary, summary_of, summary_text, version_line};
 
 use lfs_block::{Blocks, Image};
-use lfs_fs::{Mounted, VERSION};
+use lfs_fs::Mounted;
 use lfs_json::{Form, Summary, append_json_summary};
 use std::alloc::{AllocError, Global};
 
-/// A mounted image in numbers.
-fn summary_of(image: &Image, mounted: &Mounted) -> Summary
-    ensures { result ≡ summary_of image.now.disk mounted.now }
+/// A mounted image of a disk version in numbers.
+fn summary_of(version: u32, image: &Image, mounted: &Mounted) -> Summary
+    ensures { result ≡ summary_of version image.now.disk mounted.now }
 {
     Summary {
         block: image.size(),
@@ -20,15 +20,15 @@ fn summary_of(image: &Image, mounted: &Mounted) -> Summary
         free: mounted.free_count(),
         directories: mounted.directories(),
         files: mounted.files(),
-        version: VERSION,
+        version,
         limits: mounted.limits(),
     }
 }
 
-/// One line on a mounted image: its geometry, its free blocks, and how many directories and files it has, the root
-/// among the directories.
-fn summary(alloc: Global, image: &Image, mounted: &Mounted) -> Result<String, AllocError>
-    ensures { IfOk result (λ text. string_bytes text ≡ summary image.now.disk mounted.now) }
+/// What one line says of a mounted image, up to its disk version: its geometry, its free blocks, and how many directories and files it has,
+/// the root among the directories.
+fn counts(alloc: Global, image: &Image, mounted: &Mounted) -> Result<String, AllocError>
+    ensures { IfOk result (λ text. string_bytes text ≡ counts image.now.disk mounted.now) }
 {
     let size = image.size();
     let count = image.count();
@@ -36,30 +36,60 @@ fn summary(alloc: Global, image: &Image, mounted: &Mounted) -> Result<String, Al
     let directories = mounted.directories();
     let files = mounted.files();
     format!(in alloc;
-        "block {size}, count {count}, free {free}, directories {directories}, files {files}\n"
+        "block {size}, count {count}, free {free}, directories {directories}, files {files}, version "
     )
 }
 
-/// The same as an object of JSON, with the disk version and the limits.
-fn json_summary(alloc: Global, image: &Image, mounted: &Mounted) -> Result<Vec<u8>, AllocError>
-    ensures { IfOk result (λ text. text.items ≡ line_of (json_of_summary (summary_of image.now.disk mounted.now))) }
+/// A disk version and a newline.
+fn version_line(alloc: Global, version: u32) -> Result<String, AllocError>
+    ensures { IfOk result (λ text. string_bytes text ≡ version_line version) }
 {
-    let mut text = Vec::new(alloc);
-    append_json_summary(alloc, &mut text, &summary_of(image, mounted))?;
-    Ok(text)
+    let major = version / 0x1_0000;
+    let minor = version % 0x1_0000;
+    format!(in alloc; "{major}.{minor}\n")
 }
 
-/// The line on a mounted image in a form.
-pub fn summary_text(
+/// One line on a mounted image of a disk version.
+fn summary(
     alloc: Global,
-    form: Form,
+    version: u32,
     image: &Image,
     mounted: &Mounted,
 ) -> Result<Vec<u8>, AllocError>
-    ensures { IfOk result (λ text. text.items ≡ summary_text form image.now.disk mounted.now) }
+    ensures { IfOk result (λ text. text.items ≡ summary version image.now.disk mounted.now) }
+{
+    let mut text = counts(alloc, image, mounted)?.into_bytes();
+    let told = version_line(alloc, version)?;
+    text.extend_from_slice(told.as_bytes())?;
+    Ok(text)
+}
+
+/// The same as an object of JSON, with the limits.
+fn json_summary(
+    alloc: Global,
+    version: u32,
+    image: &Image,
+    mounted: &Mounted,
+) -> Result<Vec<u8>, AllocError>
+    ensures { IfOk result (λ text. text.items ≡ line_of (json_of_summary (summary_of version image.now.disk mounted.now))) }
+{
+    let mut text = Vec::new(alloc);
+    append_json_summary(alloc, &mut text, &summary_of(version, image, mounted))?;
+    Ok(text)
+}
+
+/// The line on a mounted image of a disk version in a form.
+pub fn summary_text(
+    alloc: Global,
+    form: Form,
+    version: u32,
+    image: &Image,
+    mounted: &Mounted,
+) -> Result<Vec<u8>, AllocError>
+    ensures { IfOk result (λ text. text.items ≡ summary_text form version image.now.disk mounted.now) }
 {
     match form {
-        Form::Text => Ok(summary(alloc, image, mounted)?.into_bytes()),
-        Form::Json => json_summary(alloc, image, mounted),
+        Form::Text => summary(alloc, version, image, mounted),
+        Form::Json => json_summary(alloc, version, image, mounted),
     }
 }

@@ -1,4 +1,4 @@
-//! Whether a directory of an image may go on in a part without an entry: a quick test in front of a survey.
+//! Whether a directory of an image may go on in a part without an entry: a quick test before a survey.
 
 use lfs_block::little_word;
 use lfs_lower::closes;
@@ -65,7 +65,7 @@ impl Glance {
     }
 }
 
-/// The word that the tag behind one is XORed with.
+/// The word that the tag after one is XORed with.
 fn word_behind(found: &Found<'_>) -> u32 {
     if closes(found.tag) {
         word_after(found.tag)
@@ -74,7 +74,7 @@ fn word_behind(found: &Found<'_>) -> u32 {
     }
 }
 
-/// What the commits of a block leave; `None` where it has none.
+/// What the commits of a block leave; `None` if it has none.
 fn glance_at(block: &[u8]) -> Option<Glance> {
     let mut rest = block.get(4..)?;
     let mut prev = FIRST_WORD;
@@ -95,7 +95,7 @@ fn glance_at(block: &[u8]) -> Option<Glance> {
     left
 }
 
-/// Marks a block, where it is the table's.
+/// Marks a block, if it is the table's.
 fn mark(table: &mut [bool], block: usize) {
     if let Some(flag) = table.get_mut(block) {
         *flag = true;

@@ -24,7 +24,7 @@ const MOST_BLOCKS: usize = 0x1_0000;
 
 /// The lines of an image of blocks of `size` bytes that is read of these bytes, in order: one for each pair of which an older state is read,
 /// since a later commit is damaged; and, if `tells_empty`, one for each part without an entry in which a directory goes on. Of either at
-/// most a hundred, and how many more there are. Pairs are read as a device does, where the image is read so. An image of which nothing is
+/// most a hundred, and how many more there are. Pairs are read as a device does, if the image is read so. An image of which nothing is
 /// told is looked through once, and neither copied nor surveyed. Takes memory.
 pub fn image_notes(
     alloc: Global,
@@ -99,7 +99,7 @@ pub fn older_lines(
     lines.ended(alloc, "pairs are read in an older state")
 }
 
-/// What is told of a pair of which an older state is read; its path only where one leads there.
+/// What is told of a pair of which an older state is read; its path only if one leads there.
 fn older_line(alloc: Global, survey: &Survey, place: Place) -> Result<String, AllocError> {
     let blocks = blocks_at(survey, place);
     if place.area > 0 {

@@ -12,7 +12,7 @@ pub struct Explanation {
 }
 
 /// The faults in the order of their numbers. docs/FAULTS.md has the same table.
-const EXPLANATIONS: [Explanation; 49] = [
+const EXPLANATIONS: [Explanation; 50] = [
     Explanation {
         number: 1,
         name: "ImageLength",
@@ -156,6 +156,13 @@ const EXPLANATIONS: [Explanation; 49] = [
         name: "UnknownState",
         text: "The image's global state says something that disk version 2.0 doesn't know. It was written \
          by a later version, or is damaged.",
+    },
+    Explanation {
+        number: 22,
+        name: "DamagedCommit",
+        text: "The image mounts, but a commit with a wrong checksum stands after the last one of a pair, so \
+         an older state of that pair is read. A line names each such pair. What `salvage` made holds \
+         the older state: compare it with a backup, or with what the device shows.",
     },
     Explanation {
         number: 30,

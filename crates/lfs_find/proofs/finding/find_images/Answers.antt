@@ -1,4 +1,4 @@
-use Rattle.std.proofs.Common.{◌≡◌, ◌++◌, ◌+◌, ℕ, List, ap, length, subst, sym, ◌∙◌}
+use Rattle.std.proofs.Common.{◌+◌, ℕ, List, subst, sym, ◌∙◌}
 use Rattle.lfs_find.specs.Found.{IsLooked}
 use Rattle.lfs_find.specs.declared.found.Found.{Found}
 use Rattle.lfs_find.proofs.FoundLemmas.{GoesOn, all_found, looked_more, passed_more}

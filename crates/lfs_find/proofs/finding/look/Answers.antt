@@ -1,6 +1,6 @@
-use Rattle.std.proofs.Common.{◌≡◌, ◌≤◌, List, None, Option, Some, ap, arith, subst, sym, ◌∙◌}
+use Rattle.std.proofs.Common.{◌≤◌, List, None, Option, ap, arith, subst, sym, ◌∙◌}
 use Rattle.std.specs.Prelude.{IfSome}
-use Rattle.lfs_find.specs.Found.{IsBest, IsWithin, costs, end_of}
+use Rattle.lfs_find.specs.Found.{IsBest, IsWithin, costs}
 use Rattle.lfs_find.specs.declared.found.Found.{Found}
 use Rattle.lfs_find.specs.declared.place.Place.{Place}
 use Rattle.lfs_find.proofs.LookLemmas.{can_look}

@@ -1,4 +1,4 @@
-use Rattle.std.proofs.Common.{◌≡◌, List, ap, ◌∙◌, arith, subst, sym, flat_map, ◌*◌, ◌≤◌, length}
+use Rattle.std.proofs.Common.{◌≡◌, List, ap, ◌∙◌, subst, sym, flat_map, ◌*◌, ◌≤◌, length}
 use Rattle.std.specs.List.{AllByRecursion}
 use Rattle.std.proofs.lemmas.List.{take_all}
 use Rattle.lfs_find.specs.Found.{IsWithin, places_at, places_of}

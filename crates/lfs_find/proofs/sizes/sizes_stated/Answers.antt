@@ -1,4 +1,4 @@
-use Rattle.std.proofs.Common.{◌≡◌, ◌+◌, ◌-◌, ◌≤◌, ℕ, List, ap, ap₂, drop, length, sym, subst, ◌∙◌}
+use Rattle.std.proofs.Common.{◌≡◌, ◌+◌, ◌-◌, ◌≤◌, ℕ, List, ap, drop, length, sym, subst, ◌∙◌}
 use Rattle.lfs_find.specs.Sizes.{log_size, sizes_from, with_size}
 use Rattle.lfs_find.proofs.SizesLemmas.{few_more, looked_more, passed_more}
 use Rattle.lfs_find.proofs.sizes.sizes_stated.Goals as goal

@@ -1,5 +1,5 @@
 -- What the logs that are left state behind those that were looked at is what all of them do.
-use Rattle.std.proofs.Common.{◌≡◌, ◌-◌, ◌≤◌, ◌+◌, ◌/◌, length}
+use Rattle.std.proofs.Common.{◌≡◌, ◌-◌, ◌≤◌, length}
 use Rattle.lfs_find.specs.Sizes.{sizes_from, sizes_stated}
 use Rattle.lfs_find.proofs.sizes.sizes_stated.Given as goal
 

@@ -1,6 +1,5 @@
--- Nothing is saved where the image's file isn't read, or a commit of a later version is refused in it.
-use Rattle.std.proofs.Common.{◌≡◌, ◌∙◌, List, None, Option, Some, ap, refl, subst, ℕ}
-use Rattle.std.specs.Prelude.{if◌then◌else◌}
+-- Nothing is saved where the image's file isn't read.
+use Rattle.std.proofs.Common.{◌∙◌, ◌≤◌, List, Option, length, refl, subst, sym, true, ℕ}
 use Rattle.std.proofs.lemmas.Result.{err_from_is_err_and}
 use Rattle.lfs_exchange.specs.Handing.{most_image}
 use Rattle.lfs_host.specs.Files.{ReadsFrom}
@@ -10,14 +9,12 @@ use Rattle.lfs_command.specs.declared.refusal.Refusal.TheVariants.{Memory}
 use Rattle.lfs_request.specs.declared.fault.Fault.TheVariants.{Refused}
 use Rattle.lfs_request.specs.View.{start_of}
 use Rattle.lfs_request.specs.declared.fault.Fault.{Fault}
-use Rattle.lfs_request.specs.declared.manner.Manner.{Manner}
 use Rattle.lfs_request.specs.declared.view.View.{View}
-use Rattle.lfs_open.specs.Later.{later_alone, refused_by}
 use Rattle.lfs_open.specs.Salvaging.{EndsSalvaged}
 use Rattle.lfs_open.proofs.ExtractingLemmas.{asked_read, not_taken_unread}
-use Rattle.lfs_open.proofs.ReadLengths.{kept_long, read_long}
-use Rattle.lfs_open.proofs.SalvagingLemmas.{file_salvaged, file_unsaved, kept_bytes, own_salvaged}
-use Rattle.lfs_open.proofs.StopLemmas.{stopped_at, refused_so}
+use Rattle.lfs_open.proofs.ReadLengths.{read_long}
+use Rattle.lfs_open.proofs.SalvagingLemmas.{file_salvaged, file_unsaved}
+use Rattle.lfs_open.proofs.StopLemmas.{stopped_at}
 use Rattle.lfs_open.proofs.salvaging.salvaged.Goals as goal
 
 pub returns-in_err-handed-clause-made : goal.returns-in_err-handed-clause-made
@@ -29,8 +26,7 @@ returns-in_err-handed-clause-made g c =
     let fault = c.in_err-handed.field-0.0 in
     let kept = c.taken_up.ensures.kept in
     let p = err_from_is_err_and c.from_residual.result c.from_residual.ensures.1 in
-    let manner : Manner = record { takes_older = request.takes_older; view = c.args.view } in
-    file_unsaved manner request.size name c.args.dir.now old new (stopped_by c.from_residual.result) fault (kept.0.0, kept.0.2) kept.2
+    file_unsaved c.args.view request.size name c.args.dir.now old new (stopped_by c.from_residual.result) fault (kept.0.0, kept.0.2) kept.2
     (stopped_at c.from_residual.result fault p.0 p.1 p.2) (not_taken_unread new name fault c.in_err-handed.ensures.refused)
 
 pub returns-in_err-own-clause-made : goal.returns-in_err-own-clause-made
@@ -41,58 +37,50 @@ returns-in_err-own-clause-made g c =
     let kept = c.taken_up.ensures.kept in
     let on = c.from_residual-in_err-own in
     let p = err_from_is_err_and on.result on.ensures.1 in
-    let manner : Manner = record { takes_older = request.takes_older; view = c.args.view } in
-    file_unsaved manner request.size request.image.now c.args.dir.now old new (stopped_by on.result) (Refused Memory)
+    file_unsaved c.args.view request.size request.image.now c.args.dir.now old new (stopped_by on.result) (Refused Memory)
     (kept.0.0, kept.0.2) kept.2 (stopped_at on.result (Refused Memory) p.0 p.1 p.2) refl
 
-pub returns-in_err-image-clause-made : goal.returns-in_err-image-clause-made
-returns-in_err-image-clause-made g c =
+pub returns-in_err-read-clause-made : goal.returns-in_err-read-clause-made
+returns-in_err-read-clause-made g c =
     let request = c.args.request.now in
     let old : Scene = g.H.Known.known c.args.host.now in
     let new : Scene = g.H.Known.known c.taken_up.new.host in
     let kept = c.taken_up.ensures.kept in
-    let on = c.from_residual-in_err-image in
+    let on = c.from_residual-in_err-read in
     let p = err_from_is_err_and on.result on.ensures.1 in
-    let manner : Manner = record { takes_older = request.takes_older; view = c.args.view } in
-    file_unsaved manner request.size request.image.now c.args.dir.now old new (stopped_by on.result) (Refused Memory)
+    file_unsaved c.args.view request.size request.image.now c.args.dir.now old new (stopped_by on.result) (Refused Memory)
     (kept.0.0, kept.0.2) kept.2 (stopped_at on.result (Refused Memory) p.0 p.1 p.2) refl
 
 pub salvage_bytes-requires : goal.salvage_bytes-requires
 salvage_bytes-requires g c =
     let view : View = c.args.view in
     let bytes : List ℕ = c.in_ok-handed.handed.image.items in
-    let image : List ℕ = c.in_ok-image.image.items in
-    kept_long view.by_device c.in_ok-own.own bytes image
-    (c.in_ok-own.ensures ∙ ap (λ (xs : List ℕ). if view.by_device then Some xs else None) c.deref-2.ensures.value)
-    (read_long view.offset view.by_device c.args.request.now.size bytes image c.in_ok-image.ensures.read)
+    let image : List ℕ = c.in_ok-read.read.items in
+    subst (λ (own : List ℕ). length image ≤ length own) (sym (c.in_ok-own.ensures.items ∙ c.deref.ensures.value))
+    (read_long view.offset true c.args.request.now.size bytes image c.in_ok-read.ensures)
 
 pub returns-clause-made : goal.returns-clause-made
 returns-clause-made g c =
     let request = c.args.request.now in
     let name : List ℕ = request.image.now in
     let view : View = c.args.view in
-    let manner : Manner = record { takes_older = request.takes_older; view = view } in
     let bytes : List ℕ = c.in_ok-handed.handed.image.items in
-    let image : List ℕ = c.in_ok-image.image.items in
+    let image : List ℕ = c.in_ok-read.read.items in
     let old : Scene = g.H.Known.known c.args.host.now in
     let mid : Scene = g.H.Known.known c.taken_up.new.host in
     let new : Scene = g.H.Known.known c.salvage_bytes.new.host in
     let kept = c.taken_up.ensures.kept in
     let left = c.salvage_bytes.ensures.kept in
     let ended : Option Fault = stopped_by c.salvage_bytes.result in
-    let none : refused_by manner (later_alone request.size bytes) ≡ None =
-    refused_so manner (later_alone request.size) c.deref.result.now bytes (stopped_by c.pass_alone.result) None c.deref.ensures.value
-    c.pass_alone.ensures (ap stopped_by c.in_ok-pass_alone.was) in
-    let own = c.in_ok-own.ensures ∙ ap (λ (xs : List ℕ). if view.by_device then Some xs else None) c.deref-2.ensures.value in
-    let ends : EndsSalvaged view.by_device request.size bytes image c.args.dir.now mid.tree mid.made new ended =
-    own_salvaged c.args.dir.now mid.tree mid.made new view.by_device (kept_bytes c.in_ok-own.own) request.size bytes image ended own
-    c.salvage_bytes.ensures.made in
+    let ends : EndsSalvaged request.size bytes image c.args.dir.now mid.tree mid.made new ended =
+    subst (λ (own : List ℕ). EndsSalvaged request.size own image c.args.dir.now mid.tree mid.made new ended)
+    (c.in_ok-own.ensures.items ∙ c.deref.ensures.value) c.salvage_bytes.ensures.made in
     let reads : ReadsFrom old.files name (start_of view) most_image bytes =
     subst (λ (place : ℕ). ReadsFrom old.files name place most_image bytes) c.start.ensures
     (asked_read c.in_ok-handed.handed.kind c.start.result mid.files old.files name bytes c.in_ok-handed.ensures.kind kept.0.0
     c.in_ok-handed.ensures.handed.image) in
-    file_salvaged manner request.size name c.args.dir.now bytes image old mid new ended reads kept.1 kept.2
-    (left.0 ∙ kept.0.0, left.2 ∙ kept.0.2) none c.in_ok-image.ensures.read ends
+    file_salvaged view request.size name c.args.dir.now bytes image old mid new ended reads kept.1 kept.2
+    (left.0 ∙ kept.0.0, left.2 ∙ kept.0.2) c.in_ok-read.ensures ends
 
 pub returns-clause-kept : goal.returns-clause-kept
 returns-clause-kept g c =

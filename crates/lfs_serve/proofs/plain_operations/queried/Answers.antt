@@ -1,5 +1,5 @@
 -- The image's files aren't at hand, or the other image isn't read, or the question is answered.
-use Rattle.std.proofs.Common.{Option, refl, subst, ◌∙◌, inl, inr, sym, string_bytes}
+use Rattle.std.proofs.Common.{ℕ, List, Option, refl, subst, ◌∙◌, inl, inr, sym, string_bytes}
 use Rattle.std.proofs.lemmas.Result.{err_from_is_err_and}
 use Rattle.lfs_exchange.specs.declared.step_kind.StepKind.{StepKind}
 use Rattle.lfs_exchange.specs.Handing.{HandsQuestion, IsNotTakenUp, HandedBytes}
@@ -12,7 +12,8 @@ use Rattle.lfs_request.specs.declared.fault.Fault.TheVariants.{Refused}
 use Rattle.lfs_request.specs.declared.manner.Manner.{Manner}
 use Rattle.lfs_step.specs.declared.step.Step.TheVariants.{Ask}
 use Rattle.lfs_open.proofs.StopLemmas.{stopped_at}
-use Rattle.lfs_serve.proofs.StepLemmas.{step_from, claimed_at, handed_from, question_kind, target_from, handed_at}
+use Rattle.lfs_open.specs.ReadBy.{IsAskedBy}
+use Rattle.lfs_serve.proofs.StepLemmas.{step_from, claimed_at, handed_from, question_kind, question_tells, target_from, handed_at}
 use Rattle.lfs_request.specs.View.{start_of}
 use Rattle.lfs_serve.proofs.plain_operations.queried.Goals as goal
 
@@ -55,9 +56,11 @@ returns-clause-ended g c =
     let then = c.question_of.ensures.kept.0 in
     let step = Ask c.in_ok-question.question c.args.form in
     let reads = subst (λ (f : Option Files). HandsQuestion f c.args.query.now c.in_ok-asked.asked) first.0 c.in_ok-asked.ensures.question in
+    let asked = subst (λ (image : List ℕ). IsAskedBy c.args.view.by_device request.size image c.in_ok-asked.asked c.in_ok-question.question)
+    c.deref.ensures.value c.in_ok-question.ensures in
     inl (
       step,
-      (c.in_ok-asked.asked, reads, c.in_ok-question.ensures, refl),
+      (c.in_ok-asked.asked, c.in_ok-handed.handed.image.items, reads, asked, refl),
       step_from step manner request.size request.image.now mid old new (stopped_by c.stepped_in.result)
           (then.0 ∙ first.0) (then.2 ∙ first.2) c.stepped_in.ensures.ended,
     )
@@ -114,4 +117,13 @@ pub stepped_in-requires-clause-kind : goal.stepped_in-requires-clause-kind
 stepped_in-requires-clause-kind g c =
     let files = (g.H.Known.known c.taken_up.new.host).files in
     c.in_ok-handed.ensures.kind ∙ c.kind_of_query.ensures
-    ∙ sym (question_kind files c.args.view.by_device c.args.query.now c.in_ok-asked.asked c.in_ok-question.question c.in_ok-asked.ensures.question c.in_ok-question.ensures)
+    ∙ sym (question_kind files c.args.view.by_device c.args.request.now.size c.deref.result.now c.args.query.now c.in_ok-asked.asked
+    c.in_ok-question.question c.in_ok-asked.ensures.question c.in_ok-question.ensures)
+
+pub stepped_in-requires-clause-tells : goal.stepped_in-requires-clause-tells
+stepped_in-requires-clause-tells g c =
+    let request = c.args.request.now in
+    let image : List ℕ = c.in_ok-handed.handed.image.items in
+    question_tells c.args.view.by_device request.size image c.args.form c.in_ok-asked.asked c.in_ok-question.question
+    (subst (λ (bytes : List ℕ). IsAskedBy c.args.view.by_device request.size bytes c.in_ok-asked.asked c.in_ok-question.question)
+    c.deref.ensures.value c.in_ok-question.ensures)

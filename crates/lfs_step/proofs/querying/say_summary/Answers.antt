@@ -10,14 +10,14 @@ pub returns-clause-refused : goal.returns-clause-refused
 returns-clause-refused g c =
     let d = c.args.image.now.disk in
     let m = c.in_ok-mounted.mounted in
-    let answer : IsAnswer Check c.args.form d c.in_ok-line.line.items = (m, c.in_ok-mounted.ensures.mounted, c.in_ok-line.ensures) in
-    text_refused Check c.args.form d c.in_ok-line.line.items c.sent_complete.result c.send.result c.sent_complete.ensures answer
+    let answer : IsAnswer (Check c.args.version) c.args.form d c.in_ok-line.line.items = (m, c.in_ok-mounted.ensures.mounted, c.in_ok-line.ensures) in
+    text_refused (Check c.args.version) c.args.form d c.in_ok-line.line.items c.sent_complete.result c.send.result c.sent_complete.ensures answer
 
 pub returns-clause-sent : goal.returns-clause-sent
 returns-clause-sent g c =
     let d = c.args.image.now.disk in
     let m = c.in_ok-mounted.mounted in
-    let answer : IsAnswer Check c.args.form d c.in_ok-line.line.items = (m, c.in_ok-mounted.ensures.mounted, c.in_ok-line.ensures) in
+    let answer : IsAnswer (Check c.args.version) c.args.form d c.in_ok-line.line.items = (m, c.in_ok-mounted.ensures.mounted, c.in_ok-line.ensures) in
     let went = subst (λ (l : List ℕ). Sends c.send.result (g.S.Sink.sent c.args.out.now) (g.S.Sink.sent c.send.new.out) l) c.deref.ensures.value c.send.ensures.sent in
-    summary_sent c.args.form d c.in_ok-line.line.items c.sent_complete.result c.send.result (g.S.Sink.sent c.args.out.now) (g.S.Sink.sent c.send.new.out) c.sent_complete.ensures
+    summary_sent c.args.version c.args.form d c.in_ok-line.line.items c.sent_complete.result c.send.result (g.S.Sink.sent c.args.out.now) (g.S.Sink.sent c.send.new.out) c.sent_complete.ensures
     answer went

@@ -1,5 +1,5 @@
 -- The line says what the image and its files have.
-use Rattle.lfs_step.proofs.summary.summary.Goals as goal
+use Rattle.lfs_step.proofs.summary.counts.Goals as goal
 
 pub returns : goal.returns
 returns c =

@@ -1,0 +1,64 @@
+-- A folder is made of it, or something ends that.
+use Rattle.std.proofs.Common.{rules, ◌≡◌, None, Option, Some, [], ap, false, refl, subst, true}
+use Rattle.std.proofs.lemmas.Result.{err_from_is_err_and}
+use Rattle.std.specs.Result.{result_err}
+use Rattle.lfs_block.specs.Disk.{Disk}
+use Rattle.lfs_command.specs.declared.refusal.Refusal.TheVariants.{Memory}
+use Rattle.lfs_fs.specs.Path.{path_text}
+use Rattle.lfs_host.specs.Scene.{Scene}
+use Rattle.lfs_report.specs.Stop.{stopped_by}
+use Rattle.lfs_request.specs.declared.fault.Fault.{Fault}
+use Rattle.lfs_request.specs.declared.fault.Fault.TheVariants.{Refused}
+use Rattle.lfs_open.specs.Extracting.{EndsMaking}
+use Rattle.lfs_open.specs.Salvaging.{FindsOlder, IsOther}
+use Rattle.lfs_open.proofs.SalvagingLemmas.{whole_made, whole_stopped, whole_without_memory}
+use Rattle.lfs_open.proofs.StopLemmas.{stopped_at}
+use Rattle.lfs_open.proofs.salvaging.salvage_mounted.Goals as goal
+
+pub returns-in_err-is_older-clause-made : goal.returns-in_err-is_older-clause-made
+returns-in_err-is_older-clause-made g c =
+    let old : Scene = g.H.Known.known c.args.host.now in
+    let on = c.from_residual in
+    let p = err_from_is_err_and on.result on.ensures.1 in
+    whole_without_memory c.args.dir.now old.tree old.made old c.args.reading.now.image.disk c.args.reading.now.disk.disk c.args.reading.now.parts.disk
+    (stopped_by on.result) refl (stopped_at on.result (Refused Memory) p.0 p.1 p.2)
+
+pub returns-in_err-extract_mounted-clause-made : goal.returns-in_err-extract_mounted-clause-made
+returns-in_err-extract_mounted-clause-made g c =
+    let i : Disk = c.args.reading.now.image.disk in
+    let old : Scene = g.H.Known.known c.args.host.now in
+    let new : Scene = g.H.Known.known c.extract_mounted.new.host in
+    let made : Option Fault = result_err c.extract_mounted.result in
+    let fault : Fault = c.in_err-extract_mounted.field-0.0 in
+    let told : made ≡ Some fault = search rules in
+    let on = c.from_residual-in_err-extract_mounted in
+    let p = err_from_is_err_and on.result on.ensures.1 in
+    whole_stopped c.args.dir.now old.tree old.made new i c.args.reading.now.disk.disk c.args.reading.now.parts.disk (stopped_by on.result) fault
+    (stopped_at on.result fault p.0 p.1 p.2) (subst IsOther told c.extract_mounted.ensures.other)
+    (subst (EndsMaking i (path_text []) c.args.dir.now old.tree old.made new) told c.extract_mounted.ensures.made)
+
+pub returns-then-is_older-clause-made : goal.returns-then-is_older-clause-made
+returns-then-is_older-clause-made g c =
+    let i : Disk = c.args.reading.now.image.disk in
+    let d : Disk = c.args.reading.now.disk.disk in
+    let e : Disk = c.args.reading.now.parts.disk in
+    let old : Scene = g.H.Known.known c.args.host.now in
+    let new : Scene = g.H.Known.known c.extract_mounted.new.host in
+    let made : Option Fault = result_err c.extract_mounted.result in
+    let told : made ≡ None = search rules in
+    whole_made c.args.dir.now old.tree old.made new i d e true (Some c.from.result.fault) (ap Some c.from.ensures)
+    (subst (FindsOlder d e) c.if-is_older.true c.in_ok-is_older.ensures)
+    (subst (EndsMaking i (path_text []) c.args.dir.now old.tree old.made new) told c.extract_mounted.ensures.made)
+
+pub returns-clause-made : goal.returns-clause-made
+returns-clause-made g c =
+    let i : Disk = c.args.reading.now.image.disk in
+    let d : Disk = c.args.reading.now.disk.disk in
+    let e : Disk = c.args.reading.now.parts.disk in
+    let old : Scene = g.H.Known.known c.args.host.now in
+    let new : Scene = g.H.Known.known c.extract_mounted.new.host in
+    let made : Option Fault = result_err c.extract_mounted.result in
+    let told : made ≡ None = search rules in
+    whole_made c.args.dir.now old.tree old.made new i d e false None refl
+    (subst (FindsOlder d e) c.if-is_older.false c.in_ok-is_older.ensures)
+    (subst (EndsMaking i (path_text []) c.args.dir.now old.tree old.made new) told c.extract_mounted.ensures.made)
