@@ -1,0 +1,14 @@
+-- One part more is gone through.
+use Rattle.std.proofs.Common.{ap, sym, ◌∙◌, slice_set, arith}
+use Rattle.std.proofs.lemmas.List.Edits.{map_over_more}
+use Rattle.lfs_fs.specs.Gathering.{PairPart}
+use Rattle.lfs_settle.specs.Settled.{without_share}
+use Rattle.lfs_settle.proofs.threading.clear_all.Goals as goal
+
+pub loop-part-preserved : goal.loop-part-preserved
+loop-part-preserved c =
+    ap (λ (p : PairPart). slice_set c.loop-part.part-items c.loop-part.part-index p)
+    (c.clear_part.ensures ∙ ap without_share (sym c.part-item.is))
+    ∙ map_over_more without_share c.args.parts.now.items c.loop-part.part-items c.loop-part.part-index c.part-item.result
+    (omega (arith, c.loop-part-test.true, c.deref_mut-part-items.ensures.len, c.args.parts.now.ok))
+    c.loop-part.invariant c.part-item.is

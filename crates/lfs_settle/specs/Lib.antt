@@ -1,0 +1,10 @@
+pub mod Grouping
+pub mod InStep
+pub mod Laws
+pub mod Moved
+pub mod Reached
+pub mod Reaching
+pub mod Settled
+pub mod Steps
+pub mod Threading
+pub mod Walked
