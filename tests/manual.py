@@ -55,7 +55,7 @@ COMPLETED = [
     ("lfsed fi", "find"),
     ("lfsed find f", "fw.img"),
     ("lfsed find fw.img ", ""),
-    ("lfsed find --", "--help"),
+    ("lfsed find --", "--device --help"),
     ("lfsed blocks --", "--block --device --help --json --offset --older --sum"),
     ("lfsed blocks --sum f", "fw.img"),
     ("lfsed blocks fw.img ", ""),

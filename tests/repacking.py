@@ -223,7 +223,7 @@ def sources_that_are_no_image(folder):
     sources = [
         (4_097 * b"x", "1 ImageLength", "b.img: 4097 bytes are no multiple of 4096"),
         (WORKED[:-1], "1 ImageLength", "b.img: its first block states 32 blocks of 512 bytes"),
-        (WORKED[:512], "2 BadGeometry", "b.img: an image has 2 to 65536 blocks, this one 1 of 512 bytes"),
+        (WORKED[:512], "1 ImageLength", "b.img: its first block states 32 blocks of 512 bytes"),
         (bytes(8_192), "3 NoValidCommit", "b.img: blocks 0 and 1 (/): neither holds a whole commit"),
         (image(512, 8, {0: log(1, superblock(512, 8) + file(1, b"f")[:1])}), "6 IncompleteEntry",
          "b.img: blocks 0 and 1 (/): an entry that isn't whole"),
@@ -306,7 +306,7 @@ def random_trees(folder):
     """200 trees in each version, into blocks of other sizes, with more blocks or the least number of them, and with other limits."""
     chance = random.Random(56)
     for number in range(200):
-        for write, read, device in (Scattered, Reader, ""), (LaterScattered, DeviceReader, " --device --from-block {}"):
+        for write, read, device in (Scattered, Reader, " --from-block {}"), (LaterScattered, DeviceReader, " --device --from-block {}"):
             old_size, old_count = chance.choice([(256, 40), (256, 90), (512, 24), (1_024, 16)])
             reader = read(write(chance, old_size, old_count).image, old_size)
             size, limits = chance.choice([256, 512, 1_024, 4_096]), limits_of(reader)

@@ -1,6 +1,7 @@
 -- Commits with a wrong checksum: a device wrote such a commit as a whole, and something has changed it since (own).
 use Rattle.std.specs.Prelude.{ℕ, zero, suc, ◌/◌, ◌%◌, ◌^◌, ◌==◌, ◌&&◌, ◌||◌, not, nat_lt, nat_le, Bool, true, false, List, [], ◌∷◌, length, take, drop}
 use Rattle.std.specs.Prelude.{Option, Some, None, option_and_then, bit_xor, count_ones, if◌then◌else◌}
+use Rattle.std.specs.Option.{option_map_or}
 use Rattle.std.specs.Int.{w32, from_le_bytes}
 use Rattle.lfs_block.specs.Checksum.{crc}
 use Rattle.lfs_block.specs.Disk.{Disk, block_of}
@@ -48,9 +49,13 @@ abbrev pub closed_wrong : ℕ × TagFront → Option (ℕ × List ℕ)
 closed_wrong (right, f) =
     if has_checksum f && is_wrong right (from_le_bytes w32 (take 4 f.item.content)) then Some (word_after f.item.word, f.rest) else None
 
+-- the first tag closes no commit: a commit without another tag hides nothing, and bytes of 0 read as tags that close commits
+abbrev pub holds_tags : ℕ → List ℕ → Bool
+holds_tags prev bytes = option_map_or (λ f. not (closes f.item.word)) (tag_at prev bytes) false
+
 -- the damaged commit at the front of bytes, by what stands after it
 abbrev pub damaged_at : ℕ → ℕ → List ℕ → Option (ℕ × List ℕ)
-damaged_at sum prev bytes = option_and_then closed_wrong (closing_at sum prev bytes)
+damaged_at sum prev bytes = if holds_tags prev bytes then option_and_then closed_wrong (closing_at sum prev bytes) else None
 
 -- ---- a block
 

@@ -2,7 +2,7 @@
 
 ghost use Rattle.std.specs.Prelude.{◌≡◌, option_map};
 ghost use Rattle.lfs_tag.specs.Found.{commit_found, tag_found};
-ghost use Rattle.lfs_damage.specs.Damage.{closed_wrong, closing_at, damaged_at, has_checksum, is_cut_off, is_wrong};
+ghost use Rattle.lfs_damage.specs.Damage.{closed_wrong, closing_at, damaged_at, has_checksum, holds_tags, is_cut_off, is_wrong};
 ghost use Rattle.lfs_damage.specs.Seen.{closing_found};
 
 use lfs_block::{crc32, little_word};
@@ -82,10 +82,24 @@ fn closed_wrong<'a>(closing: Closing<'a>) -> Option<Committed<'a>>
     })
 }
 
+/// Whether what `bytes` begin with as a commit, after the word `prev`, holds another tag than the one that closes it. Bytes of 0 read as tags
+/// that close commits.
+fn holds_tags(prev: u32, bytes: &[u8]) -> bool
+    ensures { result ≡ holds_tags prev bytes.now }
+{
+    match tag_at(prev, bytes) {
+        Some(found) => !closes(found.tag),
+        None => false,
+    }
+}
+
 /// What stands after the damaged commit at the front of `bytes`, if one is there, after the word `prev`, where `sum` is the checksum of
 /// what it covers before them.
 pub(crate) fn damaged_at<'a>(sum: u32, prev: u32, bytes: &'a [u8]) -> Option<Committed<'a>>
     ensures { option_map commit_found result ≡ damaged_at sum prev bytes.now }
 {
+    if !holds_tags(prev, bytes) {
+        return None;
+    }
     closed_wrong(closing_at(sum, prev, bytes)?)
 }
