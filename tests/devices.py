@@ -264,8 +264,6 @@ REFUSED = {
         eight({0: written(1, SIZE, root(TO_DIRECTORY)), 2: closed(FORWARD, file(0, b"f", b"in"))}), "3 NoValidCommit", "first"),
     "an unknown type": Row(eight({0: written(1, SIZE, root([(0x100, NO_ENTRY, b"")]))}), "4 UnknownTag", "first"),
     "names out of order": Row(eight({0: written(1, SIZE, root(file(1, b"b"), file(2, b"a")))}), "13 OrderFault", "first"),
-    "a directory that isn't reached": Row(
-        eight({0: written(1, SIZE, root(tail(SOFT, (2, 3)))), 2: written(1, SIZE, [])}), "17 Orphan", "first"),
     "a move that isn't finished": Row(
         eight({0: written(1, SIZE, root(moved(bytes.fromhex("0000f04f0200000003000000"))))}), "18 UnfinishedMove", "first"),
     "no superblock": Row(eight({0: written(1, SIZE, file(0, b"early", b"old"))}), "9 NoSuperblock", ("3 NoValidCommit",)),
@@ -353,8 +351,6 @@ APART = {
     "behind a part with entries": Row(joined(TWO, [former(file(1, b"a")), former(file(1, b"b"))]), ELSEWHERE, (ELSEWHERE,)),
     "behind another entry": Row(
         joined(TWO, [former(), file(0, b"a") + [(kind, 1, held) for kind, _, held in former()]]), ELSEWHERE, (ELSEWHERE,)),
-    "behind a soft tail": Row(
-        joined([ROOT], [former(tail(SOFT, (2, 3)))], {2: log(1, former(FILES))}), ELSEWHERE, ("17 Orphan", ELSEWHERE)),
     "another name": Row(joined(TWO, [former(), [(SUPERBLOCK, 0, b"littlefx"), *former(FILES)[1:]]]), ELSEWHERE, (ELSEWHERE,)),
     "words of 20 bytes": Row(joined(TWO, [former(), [former()[0], (0x201, 0, WORDS[:20]), *FILES]]), ELSEWHERE, (ELSEWHERE,)),
     "a hard tail back": Row(joined([ROOT], [former(tail(HARD, ROOT))]), "15 BlockTwice", ("15 BlockTwice",)),

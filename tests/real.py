@@ -2,8 +2,8 @@
 """Lives of images between a real littlefs and the program, `real.py [LIVES [SEED]]`, 40 lives by default.
 
 In each life littlefs formats a flash and changes it by random calls: over several sizes of blocks and caches, with and without times, with
-thousands of writes, so that pairs move and the superblock is expanded, or until the flash is full. The program reads, salvages and repacks
-that image, finds it in a dump, and littlefs mounts the copy. Then the program changes the copy, takes changes back and makes them again;
+thousands of writes, so that pairs move and the superblock is expanded, or until the flash is full. In half of them the power fails at last,
+at one of the writes of a call. The program reads, salvages and repacks that image, finds it in a dump, and littlefs mounts the copy. Then the program changes the copy, takes changes back and makes them again;
 littlefs mounts each image that it leaves. At last littlefs changes the copy, and the program reads that. All listings, contents, times and
 attributes are compared."""
 import multiprocessing
@@ -17,11 +17,13 @@ import tempfile
 from support.counts import Counts
 from support.folder import HOME, PROGRAM
 from support.random_steps import Model
-from support.real import NO_SPACE, TIME, UNFINISHED, Device, Refused, pattern, real_littlefs, rows_of, sha256, times_of
+from support.real import NO_POWER, TIME, Device, Refused, pattern, real_littlefs, rows_of, sha256, times_of
 
 LIVES = 40
 BLOCKS = 256, 512, 512, 1024, 4096
 ROOM = 43
+# What `salvage` ends with, which saves what stands in the image, if a change of the device is unfinished.
+UNFINISHED = 15, 16, 17, 18
 
 
 class Life:
@@ -34,7 +36,7 @@ class Life:
         self.count = self.chance.choice([24, 64, 200] if self.block > 256 else [64, 200])
         unit = self.chance.choice([it for it in (16, 32, 64, 256) if it < self.block])
         self.device = Device(folder, read=unit, prog=unit, lookahead=self.chance.choice([16, 32]), mtime=self.chance.random() < 0.5)
-        self.name, self.paths = "a.img", {"/": None}
+        self.name, self.paths, self.has_lost_power = "a.img", {"/": None}, False
 
     def check(self, what, is_right, found=""):
         """Counts one thing that is to be so."""
@@ -95,19 +97,27 @@ class Life:
                 self.paths[path] = b""
 
     def live(self, calls):
-        """Has the device carry out random calls; whether the flash was never full."""
-        return NO_SPACE not in [self.call() for _ in range(calls)]
+        """Has the device carry out random calls."""
+        for _ in range(calls):
+            self.call()
 
     def begin(self):
-        """Has the device format a flash and change it, so that it is new, used, worn or full; whether it was never full."""
+        """Has the device format a flash and change it, so that it is new, used, worn or full."""
         self.device.new(self.name, self.block, self.count)
         age = self.chance.choice(["new", "used", "worn", "full"])
-        never_full = self.live({"new": 8, "used": 150, "worn": 40, "full": 400}[age])
+        self.live({"new": 8, "used": 150, "worn": 40, "full": 400}[age])
         if age == "worn":
             self.wear()
-            never_full = self.live(20) and never_full
+            self.live(20)
         self.device("save")
-        return never_full
+
+    def lose_power(self):
+        """Has the power fail at one of the next writes and erases; of a write a part is still done."""
+        self.device("cut", after=self.chance.randrange(1, 60), torn=self.chance.random())
+        for _ in range(200):
+            if self.call() == NO_POWER:
+                break
+        self.device("save")
 
     # ---- the program
 
@@ -120,7 +130,7 @@ class Life:
 
     def is_read(self, what, *options):
         """Compares what the program reads of the image with what the device lists of it."""
-        listed = self.device.tree()
+        listed = self.listed()
         ended = self.run("ls", "--json", "--sha256", *options, self.name)
         self.check(f"{what}: listed", ended[0] == 0 and not ended[3], ended)
         if ended[0]:
@@ -133,6 +143,16 @@ class Life:
             late = {path for path, time in times_of(attributes).items() if path in listed and time != listed[path][3]}
             self.check(f"{what}: the same times", not late, late)
         return rows, attributes
+
+    def listed(self):
+        """What the device lists. If the power failed while the last entry of a part was moved, the device lists a name that it can't open;
+        after its next change it lists what is there."""
+        listed = self.device.tree()
+        if any(row[0] == "lost" for row in listed.values()):
+            self.device.tries("mkdir", path="/a-new-directory")
+            self.device.tries("remove", path="/a-new-directory")
+            listed = self.device.tree()
+        return listed
 
     def is_mounted(self, what, rows):
         """Compares what the device lists of the program's image with what it has to hold."""
@@ -170,7 +190,8 @@ class Life:
         for path in saved.rglob("*"):
             row = ("d", 0, "") if path.is_dir() else ("f", path.stat().st_size, sha256(path.read_bytes()))
             held[f"/{path.relative_to(saved)}"] = row
-        self.check("salvaged", ended[0] == 0 and not ended[3] and held == rows, ended)
+        is_whole = ended[0] == 0 and not ended[3] and held == rows
+        self.check("salvaged", is_whole or self.has_lost_power and ended[1] in UNFINISHED, ended)
         shutil.rmtree(saved, ignore_errors=True)
 
     def noise(self, length):
@@ -289,15 +310,16 @@ class Life:
         self.device.opens(self.name, self.block)
         listed = self.device.tree()
         self.paths = {"/": None} | {path: None if row[0] == "d" else b"" for path, row in listed.items()}
-        never_full = self.live(30)
+        self.live(30)
         self.device("save")
-        if never_full or self.run("check", "--device", "-b", "auto", self.name)[1] not in UNFINISHED:
-            self.is_read("the device goes on", "--device", "-b", "auto")
+        self.is_read("the device goes on", "--device", "-b", "auto")
 
     def whole(self):
         """The whole life."""
-        if not self.begin() and self.run("check", "--device", "-b", "auto", self.name)[1] in UNFINISHED:
-            return
+        self.begin()
+        self.has_lost_power = self.chance.random() < 0.5
+        if self.has_lost_power:
+            self.lose_power()
         self.in_a_dump()
         found = self.repack()
         if found:

@@ -7,7 +7,7 @@ import pathlib
 import sys
 
 from support.folder import run_scenes
-from support.real import UNFINISHED, rows_of, times_of
+from support.real import rows_of, times_of
 
 STORED = pathlib.Path(__file__).resolve().parent / "images"
 IMAGES = json.loads((STORED / "images.json").read_text())
@@ -35,10 +35,6 @@ def images_are_read(folder):
         taken(folder, name)
         at = f"--offset {about['offset']} a.img"
         status, told, printed = folder.run(f"check --device -b auto {at}")
-        if about["unfinished"]:
-            fault = int(told.split(" ")[1]) if status == 3 else 0
-            folder.check(f"{name}: left unfinished", fault in UNFINISHED, told)
-            continue
         said = f"block {about['block']}, count {about['count']}, free "
         is_said = printed.decode().startswith(said) and printed.decode().endswith(", version 2.1\n")
         folder.check(f"{name}: checked", (status, told) == (0, "") and is_said, (status, told, printed))
@@ -47,23 +43,21 @@ def images_are_read(folder):
 
 def images_are_found(folder):
     for name, about in IMAGES.items():
-        if not about["unfinished"]:
-            taken(folder, name)
-            status, told, printed = folder.run("find a.img")
-            block, count = about["block"], about["count"]
-            wanted = f"0x{about['offset']:x}  version 2.1  block {block}  count {count}  {block * count} bytes  mounts\n"
-            folder.check(f"{name}: found", (status, told, printed.decode()) == (0, "", wanted), (status, told, printed))
+        taken(folder, name)
+        status, told, printed = folder.run("find a.img")
+        block, count = about["block"], about["count"]
+        wanted = f"0x{about['offset']:x}  version 2.1  block {block}  count {count}  {block * count} bytes  mounts\n"
+        folder.check(f"{name}: found", (status, told, printed.decode()) == (0, "", wanted), (status, told, printed))
 
 
 def images_are_repacked(folder):
     for name, about in IMAGES.items():
-        if not about["unfinished"]:
-            taken(folder, name)
-            more = about["count"] + 4
-            ended = folder.run(f"repack --device --offset {about['offset']} -b {about['block']} --count {more} b.img a.img")
-            folder.check(f"{name}: repacked", ended == (0, "", b""), ended)
-            listed(folder, about, f"{name}, repacked", "-b auto b.img")
-            folder.image.with_name("b.img").unlink()
+        taken(folder, name)
+        more = about["count"] + 4
+        ended = folder.run(f"repack --device --offset {about['offset']} -b {about['block']} --count {more} b.img a.img")
+        folder.check(f"{name}: repacked", ended == (0, "", b""), ended)
+        listed(folder, about, f"{name}, repacked", "-b auto b.img")
+        folder.image.with_name("b.img").unlink()
 
 
 if __name__ == "__main__":

@@ -6,9 +6,7 @@ import pathlib
 import subprocess
 
 HERE = pathlib.Path(__file__).resolve().parent
-# What littlefs leaves unfinished when the power fails or the flash is full, which is refused so far: 15, 17 and 18.
-UNFINISHED = 15, 17, 18
-NO_SPACE = 28
+NO_POWER, NO_SPACE = 5, 28
 # The kind of the attribute that has the time of a change, in billionths of a second.
 TIME = 1
 

@@ -5,7 +5,7 @@ use Rattle.lfs_block.specs.Disk.{Disk, IsDisk, image_of}
 use Rattle.lfs_block.specs.ImageFault.{IsNoImage}
 use Rattle.lfs_fs.specs.Cause.{HasCause, IsOfFormat}
 use Rattle.lfs_fs.specs.Mounted.{MountedValue, IsMountOf}
-use Rattle.lfs_lower.specs.ReadAs.{IsReadAs}
+use Rattle.lfs_settle.specs.ReadAs.{IsReadAs}
 use Rattle.lfs_find.specs.Place.{log_begins, place_at}
 use Rattle.lfs_find.specs.Sizes.{may_look, sizes_stated}
 use Rattle.lfs_find.specs.declared.found.Found.{Found}

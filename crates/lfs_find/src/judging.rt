@@ -12,7 +12,7 @@ use crate::place::Place;
 use crate::unmounted::Unmounted;
 use lfs_block::{Blocks, Image, MountFault};
 use lfs_fs::mount;
-use lfs_lower::read_as;
+use lfs_settle::read_as;
 use std::alloc::{AllocError, Global};
 
 /// The image that is read at a place of a file.

@@ -20,12 +20,8 @@ use Rattle.lfs_fs.proofs.ContainsLemmas.{contains_first, contains_later}
 use Rattle.lfs_fs.proofs.FrontLemmas.{fronts_begin_each_other}
 use Rattle.lfs_fs.proofs.StoredLemmas.{there_in_thread}
 use Rattle.lfs_lower.specs.Anew.{IsSpelledAnew, ReadsBlocks}
-use Rattle.lfs_lower.specs.Joined.{IsJoinedImage, RelaidImagesHoldWhatIsRead}
-use Rattle.lfs_lower.specs.LaterReading.{later_reading_of}
-use Rattle.lfs_lower.specs.Laws.{LivesAreRead}
+use Rattle.lfs_lower.specs.Joined.{IsJoinedImage}
 use Rattle.lfs_lower.specs.OneSuperblock.{all_can, behind_superblock, can_join, entry_or, joined_of_superblocks, last_from, last_superblock, led_by, one_superblock, part_as_one, part_joined, superblock_at, superblock_in, superblock_pairs}
-use Rattle.lfs_lower.proofs.HeldAnew.{LawsBelow, spelled_anew_hold}
-use Rattle.lfs_lower.proofs.LoweredHeld.{lowered_is_anew, reads_later}
 use Rattle.lfs_lower.proofs.LongestFronts.{AgreeAt, StepAlike, front_alike, longest_is, pairs_name_both}
 use Rattle.lfs_lower.proofs.PairsAlong.{superblock_pairs_alike, superblock_pairs_are_front}
 use Rattle.lfs_lower.proofs.StaysOne.{part_same}
@@ -177,12 +173,5 @@ module _ (d : Disk) (r : Reading) (g f : Disk) (reads : ReadsBlocks d r) (anew :
   }
 
 -- a reading with one superblock differs in parts alone
-reads_one : (d : Disk) (r : Reading) → ReadsBlocks d r → ReadsBlocks d (one_superblock r)
+pub reads_one : (d : Disk) (r : Reading) → ReadsBlocks d r → ReadsBlocks d (one_superblock r)
 reads_one d r reads = record { size = reads.size; count = reads.count; chain = reads.chain; content = reads.content }
-
--- the law, for images that are lowered and then joined_of_superblocks
-pub relaid_images_hold : LawsBelow → LivesAreRead → RelaidImagesHoldWhatIsRead
-relaid_images_hold laws lives d f v disk is sound =
-    let later : Reading = later_reading_of d in
-    spelled_anew_hold laws d (one_superblock later) f v disk (reads_one d later (reads_later d))
-    (joined_is_anew d later is.between f (reads_later d) (lowered_is_anew lives d is.between disk is.lowered) is.joined) sound

@@ -9,11 +9,11 @@ pub mod JoinedParts
 pub mod JoinedComplete
 pub mod KeptLemmas
 pub mod KeptTags
+pub mod LaterPart
 pub mod LaterSteps
 pub mod LongestFronts
-pub mod LoweredAlong
 pub mod LoweredBlocks
-pub mod LoweredHeld
+pub mod LoweredPairs
 pub mod LoweredThrough
 pub mod PairsAlong
 pub mod PartsPut

@@ -2,7 +2,7 @@
 use Rattle.std.proofs.Common.{◌≡◌, ℕ, ◌+◌, refl, sym, ap, subst, ◌∙◌, arith, inl, inr}
 use Rattle.std.proofs.lemmas.Bool.{cases_lt}
 use Rattle.lfs_block.specs.Disk.{Disk, IsDisk, block_of}
-use Rattle.lfs_lower.specs.Along.{IsBlockLowered}
+use Rattle.lfs_lower.specs.Lowered.{IsBlockLowered}
 use Rattle.lfs_lower.specs.Spelled.{is_root_block, lowered_block}
 use Rattle.lfs_lower.specs.Through.{IsLoweredBelow}
 

@@ -1,15 +1,13 @@
 -- An image with one superblock made of one whose superblock was expanded (own).
-use Rattle.std.specs.Prelude.{ℕ, ◌≡◌, ◌↔◌, Contains}
+use Rattle.std.specs.Prelude.{ℕ, ◌≡◌, Contains}
 use Rattle.lfs_block.specs.Disk.{Disk, IsDisk, block_of}
 use Rattle.lfs_meta.specs.Body.{Pair}
 use Rattle.lfs_meta.specs.LiveBlock.{stored_part_of}
 use Rattle.lfs_fs.specs.Front.{pairs_name}
 use Rattle.lfs_fs.specs.Holds.{Holds}
 use Rattle.lfs_fs.specs.Reading.{Reading, reading_of}
-use Rattle.lfs_fs.specs.Sound.{IsSound}
 use Rattle.lfs_fs.specs.Volume.{Volume}
-use Rattle.lfs_lower.specs.Lowered.{IsLoweredImage}
-use Rattle.lfs_lower.specs.OneSuperblock.{device_reading_of, one_superblock, superblock_pairs}
+use Rattle.lfs_lower.specs.OneSuperblock.{one_superblock, superblock_pairs}
 
 -- the pairs of its superblocks hold what they count as, and all other blocks are as they were
 pub record IsJoinedImage (d e : Disk) : Type 0 where
@@ -18,17 +16,6 @@ pub record IsJoinedImage (d e : Disk) : Type 0 where
   pub count : e.count ≡ d.count
   pub held : (p : Pair) → Contains (superblock_pairs (reading_of d)) p → stored_part_of e p ≡ (one_superblock (reading_of d)).part p
   pub others : (b : ℕ) → pairs_name b (superblock_pairs (reading_of d)) ≡ 0 → block_of e b ≡ block_of d b
-
--- lowered, and then joined
-pub record IsRelaidImage (d f : Disk) : Type 0 where
-  pub between : Disk
-  pub lowered : IsLoweredImage d between
-  pub joined : IsJoinedImage between f
-
--- the law: it holds the sound volumes that a reader of version 2.1 reads in the other one, and no other
-abbrev pub RelaidImagesHoldWhatIsRead : Type 0
-RelaidImagesHoldWhatIsRead = (d f : Disk) (v : Volume) → IsDisk d → IsRelaidImage d f → IsSound v
-    → Holds (reading_of f) v ↔ Holds (device_reading_of d) v
 
 -- the law: what an image holds whose superblock stands once, it holds as before
 abbrev pub OneSuperblockStays : Type 0

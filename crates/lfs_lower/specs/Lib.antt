@@ -5,7 +5,6 @@ pub mod Seen
 pub mod Words
 pub mod Spelled
 pub mod Lowered
-pub mod Along
 pub mod Through
 pub mod LaterReading
 pub mod Laws
@@ -14,7 +13,5 @@ pub mod OneSuperblock
 pub mod Anew
 pub mod Joined
 pub mod Joining
-pub mod ByDevice
-pub mod ReadAs
-pub mod Within
+pub mod Own
 pub mod Beginning

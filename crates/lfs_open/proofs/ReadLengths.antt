@@ -11,9 +11,10 @@ use Rattle.lfs_block.specs.declared.image_fault.ImageFault.{ImageFault}
 use Rattle.lfs_block.specs.declared.image_fault.ImageFault.TheVariants.{ImageLength, BadGeometry}
 use Rattle.lfs_block.proofs.BytesLemmas.{image_of_disk}
 use Rattle.lfs_fs.specs.Reading.{reading_of}
-use Rattle.lfs_lower.specs.ByDevice.{IsReadByDevice}
-use Rattle.lfs_lower.specs.ReadAs.{IsReadAs}
-use Rattle.lfs_lower.specs.Within.{IsOwnPart, count_stated, own_part, complete_blocks}
+use Rattle.lfs_lower.specs.Own.{IsOwnPart, count_stated, own_part}
+use Rattle.lfs_settle.specs.ByDevice.{IsReadByDevice}
+use Rattle.lfs_settle.specs.ReadAs.{IsReadAs}
+use Rattle.lfs_settle.specs.Within.{complete_blocks}
 use Rattle.lfs_open.specs.ReadBy.{IsReadFrom}
 
 -- ---- what is read
@@ -22,8 +23,8 @@ use Rattle.lfs_open.specs.ReadBy.{IsReadFrom}
 by_device_long : (size : ℕ) (old new : List ℕ) → IsReadByDevice size old new → length new ≤ length old
 by_device_long size old new (inl (is, (f, relaid, same))) =
     let d : Disk = image_of size old in
-    let counts : f.count ≡ d.count = relaid.joined.count ∙ relaid.lowered.count in
-    let sizes : f.size ≡ size = relaid.joined.size ∙ relaid.lowered.size in
+    let counts : f.count ≡ d.count = relaid.joined.count ∙ relaid.settled.count in
+    let sizes : f.size ≡ size = relaid.joined.size ∙ relaid.settled.size in
     let long : length new ≡ length old =
     ap length same ∙ relaid.joined.disk.len ∙ ap (λ n. n * f.size) counts ∙ ap (λ n. d.count * n) sizes ∙ sym is.len in
     omega arith

@@ -3,8 +3,8 @@ use Rattle.std.specs.Prelude.{ℕ, ◌≡◌, ◌⊎◌, Bool, true, false, List
 use Rattle.std.specs.Option.{option_map_or}
 use Rattle.lfs_command.specs.declared.refusal.Refusal.TheVariants.{Memory}
 use Rattle.lfs_lower.specs.Beginning.{begins_with}
-use Rattle.lfs_lower.specs.ReadAs.{IsReadAs}
-use Rattle.lfs_lower.specs.Within.{IsImageWithin}
+use Rattle.lfs_settle.specs.ReadAs.{IsReadAs}
+use Rattle.lfs_settle.specs.Within.{IsImageWithin}
 use Rattle.lfs_request.specs.Query.{Question}
 use Rattle.lfs_request.specs.declared.fault.Fault.{Fault}
 use Rattle.lfs_request.specs.declared.fault.Fault.TheVariants.{Refused}

@@ -4,8 +4,9 @@ ghost use Rattle.std.specs.Prelude.{◌≡◌, IfErr, IfOk};
 ghost use Rattle.lfs_open.specs.ReadBy.{IsAskedBy, IsReadAnew, IsReadBy, told_version};
 
 use lfs_fs::VERSION;
-use lfs_lower::{begins_with, read_as, read_within};
+use lfs_lower::begins_with;
 use lfs_request::{Query, View};
+use lfs_settle::{read_as, read_within};
 use std::alloc::{AllocError, Global};
 
 /// Bytes that were read of an image's file, from its place on, as the image is looked at. Takes memory if they aren't read as they are.

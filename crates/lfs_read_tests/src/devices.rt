@@ -1,10 +1,11 @@
 //! Images as devices read them.
 
 use crate::images::image_of;
-use lfs_block::Image;
+use lfs_block::{Blocks, Image};
 use lfs_fs::mount;
-use lfs_lower::{join, lower, read_by_device};
-use std::alloc::Global;
+use lfs_lower::{all_can, join, later_part_at, lower_pair, own_bytes, put_parts};
+use lfs_settle::{read_as, read_by_device, read_within};
+use std::alloc::{AllocError, Global};
 
 // the first block as version 2.1 formats it, with a forward checksum in front of the tag that closes the commit
 const LATER: &[u8] = b"\x01\x00\x00\x00\xf0\x0f\xff\xf7littlefs\
@@ -45,10 +46,10 @@ fn begins(bytes: &[u8], at: usize, front: &[u8]) -> bool {
     }
 }
 
-/// Whether an image becomes one of version 2.0.
+/// Whether the first pair of an image becomes one of version 2.0.
 fn lowers(alloc: Global, image: Image) -> bool {
     let mut image = image;
-    if lower(alloc, &mut image).is_err() {
+    if image.count() < 2 || lower_pair(alloc, &mut image, (0, 1)).is_err() {
         return false;
     }
     let bytes = image.into_bytes();
@@ -66,6 +67,37 @@ fn later_is_lowered(alloc: Global) -> bool {
 #[test]
 fn image_of_version_2_1_is_lowered(rt: HostRuntime) {
     assert!(rt; later_is_lowered(rt.alloc()));
+}
+
+/// Whether the part that version 2.1 reads of the first pair is a superblock alone, and can be put back. Takes memory.
+fn is_put_back(alloc: Global, image: Image) -> Result<bool, AllocError> {
+    let mut image = image;
+    if image.count() < 2 {
+        return Ok(false);
+    }
+    let Some(part) = later_part_at(alloc, &image, (0, 1))? else {
+        return Ok(false);
+    };
+    let is_alone = part.entries.len() == 1;
+    let parts = vec![in alloc; part]?;
+    if !all_can(&parts, image.size(), image.count()) {
+        return Ok(false);
+    }
+    put_parts(alloc, &mut image, &parts)?;
+    Ok(is_alone && mount(alloc, &image).is_ok())
+}
+
+/// Whether that of the image of version 2.1 can.
+fn later_part_is_put_back(alloc: Global) -> bool {
+    match image_of(alloc, 512, 4_096, &[(0, LATER)]) {
+        Some(image) => is_put_back(alloc, image).unwrap_or(false),
+        None => false,
+    }
+}
+
+#[test]
+fn part_of_version_2_1_is_put_back(rt: HostRuntime) {
+    assert!(rt; later_part_is_put_back(rt.alloc()));
 }
 
 /// Whether an image gets one superblock of two.
@@ -113,4 +145,42 @@ fn later_is_read(alloc: Global) -> bool {
 #[test]
 fn bytes_are_read_as_a_device_does(rt: HostRuntime) {
     assert!(rt; later_is_read(rt.alloc()));
+}
+
+/// Whether of bytes with an image of eight blocks of 512 bytes before others that image is read, and as it is the same bytes.
+fn begins_with_image(alloc: Global, bytes: Vec<u8>) -> bool {
+    let len = bytes.len();
+    let Ok(as_it_is) = read_as(alloc, false, 512, bytes) else {
+        return false;
+    };
+    let is_whole = as_it_is.len() == len;
+    match read_within(alloc, true, 512, as_it_is) {
+        Ok(image) => is_whole && image.len() == 4_096,
+        Err(_) => false,
+    }
+}
+
+/// Whether of an image of version 2.0 with two blocks after it the image is left.
+fn has_its_own(alloc: Global) -> bool {
+    match image_of(alloc, 512, 5_120, &[(0, LOWERED)]) {
+        Some(image) => match own_bytes(alloc, 512, image.into_bytes()) {
+            Ok(own) => own.len() == 4_096,
+            Err(_) => false,
+        },
+        None => false,
+    }
+}
+
+/// Whether of the image of version 2.1 with two blocks after it the image is read.
+fn later_is_read_within(alloc: Global) -> bool {
+    match image_of(alloc, 512, 5_120, &[(0, LATER)]) {
+        Some(image) => begins_with_image(alloc, image.into_bytes()),
+        None => false,
+    }
+}
+
+#[test]
+fn image_is_read_of_longer_bytes(rt: HostRuntime) {
+    assert!(rt; has_its_own(rt.alloc()));
+    assert!(rt; later_is_read_within(rt.alloc()));
 }

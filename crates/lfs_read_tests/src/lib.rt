@@ -34,6 +34,8 @@ mod surveys;
 #[cfg(test)]
 mod trees;
 #[cfg(test)]
+mod unfinished;
+#[cfg(test)]
 mod writing;
 
 pub use samples::block_of;

@@ -2,12 +2,12 @@ pub mod DirectoriesOfGroups
 pub mod FirstWith
 pub mod Groupings
 pub mod InStepStays
+pub mod PairsLowered
 pub mod MovedEntry
 pub mod NextItems
 pub mod PartLists
 pub mod ReachedGroups
 pub mod Reaching
-pub mod SettledAlike
 pub mod SettledBlocks
 pub mod SettledFrom
 pub mod SettledImage

@@ -1,11 +1,11 @@
--- An image whose pairs hold the settled parts is settled.
+-- An image whose pairs are lowered, and hold the settled parts then, is settled.
 use Rattle.std.proofs.Common.{◌≡◌, inl, inr, ℕ, ◌≤◌, ◌<◌, ◌==◌, Bool, true, false, List, [], ◌∷◌, length, Option, Some, None, refl, ap, sym, ◌∙◌, subst, arith}
 use Rattle.std.specs.Prelude.{All, Contains, IsSome, ◌&&◌, bytes_eq, find, if◌then◌else◌, not, option_map}
 use Rattle.std.specs.List.{AllByRecursion, filter, list_all}
 use Rattle.std.specs.Option.{option_map_or, option_or}
 use Rattle.std.proofs.lemmas.Bool.{and_parts, both_ways, eqb-true}
 use Rattle.std.proofs.lemmas.Slice.Eq.{bytes_eq-Decides}
-use Rattle.std.proofs.lemmas.List.Elements.{All-contains, All-map}
+use Rattle.std.proofs.lemmas.List.Elements.{All-contains, All-map, All-nil, All-weaker}
 use Rattle.std.proofs.lemmas.List.Sums.{sum_by-cons}
 use Rattle.lfs_block.specs.Disk.{Disk, IsDisk}
 use Rattle.lfs_meta.specs.declared.tail.Tail.{Tail}
@@ -19,21 +19,27 @@ use Rattle.lfs_meta.specs.Part.{StoredPart}
 use Rattle.lfs_fs.specs.Pair.{root, same_pair}
 use Rattle.lfs_fs.specs.Front.{Follow, after, next_pair, pair_names, pairs_name, tail_of}
 use Rattle.lfs_fs.specs.Gathering.{PairPart, delta_from}
-use Rattle.lfs_fs.specs.Reading.{Reading, reading_of}
-use Rattle.lfs_fs.proofs.ContainsLemmas.{contains_cases, contains_first, contains_later, contains_none}
+use Rattle.lfs_fs.specs.Reading.{Reading}
+use Rattle.lfs_fs.proofs.ContainsLemmas.{contains_cases, contains_first, contains_later, contains_mapped, contains_none}
 use Rattle.lfs_fs.proofs.EntryAtLemmas.{found}
 use Rattle.lfs_fs.proofs.PairLemmas.{same_pair-is, same_pair-refl}
 use Rattle.lfs_lower.specs.Joining.{ArePartsPut, CanPut}
+use Rattle.lfs_lower.specs.LaterReading.{later_part_of, later_reading_of}
+use Rattle.lfs_lower.specs.Laws.{LivesAreRead}
 use Rattle.lfs_lower.specs.OneSuperblock.{can_be_put}
-use Rattle.lfs_lower.proofs.LongestFronts.{names_first}
+use Rattle.lfs_lower.proofs.LongestFronts.{names_first, pairs_name_both}
+use Rattle.lfs_lower.proofs.LoweredPairs.{lowered_part}
 use Rattle.lfs_lower.proofs.PartsPut.{pair_in, pairs_in}
 use Rattle.lfs_settle.specs.InStep.{has_thread, in_step, pairs_named, stepped_part, thread_pairs, thread_parts}
 use Rattle.lfs_settle.specs.Laws.{AreLinked, first_pair}
+use Rattle.lfs_settle.specs.Lowered.{ArePairsLowered}
 use Rattle.lfs_settle.specs.Moved.{can_end}
-use Rattle.lfs_settle.specs.Settled.{IsSettledImage, can_hold, can_settle, is_held, is_kept, same_tail, settled, settled_parts, with_parts}
+use Rattle.lfs_settle.specs.Planned.{IsPlan, changed_parts}
+use Rattle.lfs_settle.specs.Settled.{IsSettledImage, can_hold, can_settle, is_held, is_kept, same_tail, settled, settled_parts, settled_reading_of, with_parts}
 use Rattle.lfs_settle.proofs.SettledFrom.{as_many, settled_complete, settled_from}
 use Rattle.lfs_settle.proofs.SettledThread.{settled_linked}
-use Rattle.lfs_settle.proofs.ThreadPairs.{thread_found}
+use Rattle.lfs_settle.proofs.SettledImage.{settled_reads}
+use Rattle.lfs_settle.proofs.ThreadPairs.{thread_found, thread_is_front}
 use Rattle.lfs_settle.proofs.ThreadParts.{LinkedFrom, held_is}
 use Rattle.lfs_settle.proofs.ReachedGroups.{contains_filtered}
 use Rattle.lfs_settle.proofs.PartLists.{omega_none, contains_of, each_passes, fails, all_are, inside, fewer, left_out, all_can_hold}
@@ -154,24 +160,21 @@ module _ (r : Reading) (qs : List PairPart) (once : (b : ℕ) → pairs_name b (
         ends = ap (λ (o : Option Pair). after (next_pair (with_parts r qs)) o (pairs_in qs)) (sym first) ∙ both.1;
       })
 
--- ---- the image
+-- ---- the parts that are to be put
 
--- the parts that are to be put
-abbrev pub changed_parts : Disk → List PairPart
-changed_parts d = filter (λ p. not (is_held (reading_of d) p)) (settled_parts (thread_parts (in_step (reading_of d))))
-
-module _ (d : Disk) (complete : All (λ p. AllByRecursion IsComplete p.1.entries) (thread_parts (in_step (reading_of d)))) where
+module _ (d : Disk) (complete : All (λ p. AllByRecursion IsComplete p.1.entries) (thread_parts (in_step (later_reading_of d)))) where
   -- each can be put
-  pub can_put_changed : list_all (λ p. can_be_put d.size d.count p.1) (changed_parts d) ≡ true → All (CanPut d) (changed_parts d)
-  can_put_changed can = all_are (CanPut d) (changed_parts d) each
+  can_put_changed : list_all (λ p. can_be_put d.size d.count p.1) (changed_parts (later_reading_of d)) ≡ true
+      → All (CanPut d) (changed_parts (later_reading_of d))
+  can_put_changed can = all_are (CanPut d) (changed_parts r) each
     where
       r : Reading
-      r = reading_of d
+      r = later_reading_of d
 
       test : PairPart → Bool
       test = λ (p : PairPart). not (is_held r p)
 
-      each : (p : PairPart) → Contains (changed_parts d) p → CanPut d p
+      each : (p : PairPart) → Contains (changed_parts r) p → CanPut d p
       each p there =
           let q = inside test (settled_parts (thread_parts (in_step r))) p there in
           record {
@@ -180,114 +183,205 @@ module _ (d : Disk) (complete : All (λ p. AllByRecursion IsComplete p.1.entries
             second = settled_second_within (in_step r) p q;
             complete = settled_complete (thread_parts (in_step r))
                 (λ x inside. All-contains (λ (y : PairPart). AllByRecursion IsComplete y.1.entries) (thread_parts (in_step r)) x complete inside) p q;
-            can = each_passes (λ (y : PairPart). can_be_put d.size d.count y.1) (changed_parts d) p can there;
+            can = each_passes (λ (y : PairPart). can_be_put d.size d.count y.1) (changed_parts r) p can there;
           }
 
-pub changed_once : (d : Disk) (b : ℕ) → pairs_name b (pairs_in (changed_parts d)) ≤ 1
-changed_once d b =
+changed_once : (r : Reading) (b : ℕ) → pairs_name b (pairs_in (changed_parts r)) ≤ 1
+changed_once r b =
     omega (
       arith,
-      fewer b (λ (p : PairPart). not (is_held (reading_of d) p)) (settled_parts (thread_parts (in_step (reading_of d)))),
-      settled_once (in_step (reading_of d)) b,
+      fewer b (λ (p : PairPart). not (is_held r p)) (settled_parts (thread_parts (in_step r))),
+      settled_once (in_step r) b,
     )
 
 -- whether an image can be settled, in the order in which it is tested
-pub can_settle_is : (d : Disk) → list_all (λ p. can_be_put d.size d.count p.1) (changed_parts d)
-    ≡ list_all (λ p. can_hold (reading_of d) p) (settled_parts (thread_parts (in_step (reading_of d))))
-can_settle_is d =
-    all_can_hold (λ p. is_held (reading_of d) p) (λ p. can_be_put d.size d.count p.1) (settled_parts (thread_parts (in_step (reading_of d))))
+can_settle_is : (r : Reading) → list_all (λ p. can_be_put r.size r.count p.1) (changed_parts r)
+    ≡ list_all (λ p. can_hold r p) (settled_parts (thread_parts (in_step r)))
+can_settle_is r =
+    all_can_hold (λ p. is_held r p) (λ p. can_be_put r.size r.count p.1) (settled_parts (thread_parts (in_step r)))
+
+-- whether parts can be put, by a size and a count
+abbrev all_can : ℕ → ℕ → List PairPart → Bool
+all_can size count ps = list_all (λ p. can_be_put size count p.1) ps
 
 -- the test, as the code makes it
-pub tested : (d : Disk) (changed : List PairPart) (size count : ℕ) → changed ≡ changed_parts d → size ≡ d.size → count ≡ d.count
-    → (has_thread (in_step (reading_of d))
-    && can_end (delta_from (thread_parts (in_step (reading_of d)))) (thread_parts (in_step (reading_of d)))) ≡ true
-    → list_all (λ p. can_be_put size count p.1) changed ≡ can_settle (reading_of d) (in_step (reading_of d))
+pub tested : (d : Disk) (changed : List PairPart) (size count : ℕ) → changed ≡ changed_parts (later_reading_of d) → size ≡ d.size
+    → count ≡ d.count
+    → (has_thread (in_step (later_reading_of d))
+    && can_end (delta_from (thread_parts (in_step (later_reading_of d)))) (thread_parts (in_step (later_reading_of d)))) ≡ true
+    → list_all (λ p. can_be_put size count p.1) changed ≡ can_settle (later_reading_of d) (in_step (later_reading_of d))
 tested d changed size count is same_size same_count ended =
-    ap (λ (n : ℕ). list_all (λ (p : PairPart). can_be_put n count p.1) changed) same_size
-    ∙ ap (λ (n : ℕ). list_all (λ (p : PairPart). can_be_put d.size n p.1) changed) same_count
-    ∙ ap (λ (ps : List PairPart). list_all (λ (p : PairPart). can_be_put d.size d.count p.1) ps) is
-    ∙ can_settle_is d
-    ∙ ap (λ (b : Bool). b && list_all (λ (p : PairPart). can_hold (reading_of d) p) (settled_parts (thread_parts (in_step (reading_of d))))) (sym ended)
+    let r : Reading = later_reading_of d in
+    ap (λ (n : ℕ). all_can n count changed) same_size
+    ∙ ap (λ (n : ℕ). all_can d.size n changed) same_count
+    ∙ ap (all_can d.size d.count) is
+    ∙ can_settle_is r
+    ∙ ap (λ (b : Bool). b && list_all (λ (p : PairPart). can_hold r p) (settled_parts (thread_parts (in_step r)))) (sym ended)
 
-pub can_put_all : (d : Disk) (changed parts : List PairPart) (size count : ℕ) → changed ≡ changed_parts d → size ≡ d.size → count ≡ d.count
-    → parts ≡ thread_parts (in_step (reading_of d)) → All (λ p. AllByRecursion IsComplete p.1.entries) parts
+pub can_put_all : (d : Disk) (changed parts : List PairPart) (size count : ℕ) → changed ≡ changed_parts (later_reading_of d) → size ≡ d.size
+    → count ≡ d.count → parts ≡ thread_parts (in_step (later_reading_of d)) → All (λ p. AllByRecursion IsComplete p.1.entries) parts
     → list_all (λ p. can_be_put size count p.1) changed ≡ true → All (CanPut d) changed
 can_put_all d changed parts size count is same_size same_count along complete can =
     subst (All (CanPut d)) (sym is)
     (can_put_changed d (subst (All (λ (p : PairPart). AllByRecursion IsComplete p.1.entries)) along complete)
-    (sym (ap (λ (n : ℕ). list_all (λ (p : PairPart). can_be_put n count p.1) changed) same_size
-    ∙ ap (λ (n : ℕ). list_all (λ (p : PairPart). can_be_put d.size n p.1) changed) same_count
-    ∙ ap (λ (ps : List PairPart). list_all (λ (p : PairPart). can_be_put d.size d.count p.1) ps) is) ∙ can))
+    (sym (ap (λ (n : ℕ). all_can n count changed) same_size
+    ∙ ap (λ (n : ℕ). all_can d.size n changed) same_count
+    ∙ ap (all_can d.size d.count) is) ∙ can))
 
--- where it can't be, it stays
-pub unsettled_is : (d : Disk) → IsDisk d → can_settle (reading_of d) (in_step (reading_of d)) ≡ false → IsSettledImage d d
-unsettled_is d is can =
-    let r = reading_of d in
-    let same : settled r ≡ r = ap (λ (b : Bool). if b then with_parts r (settled_parts (thread_parts (in_step r))) else r) can in
-    record {
-      disk = is;
-      size = refl;
-      count = refl;
-      held = λ p there. ap (λ (q : Reading). q.part p) (sym same);
-      others = λ b none. refl;
-    }
-
--- the thread of one that can be is whole
-pub linked_if : (r : Reading) → can_settle r (in_step r) ≡ true → LinkedFrom (Some root) (thread_parts (in_step r))
+-- the thread of one that can be settled is whole
+linked_if : (r : Reading) → can_settle r (in_step r) ≡ true → LinkedFrom (Some root) (thread_parts (in_step r))
 linked_if r can =
     whole_linked (in_step r)
     (and_parts (has_thread (in_step r)) (can_end (delta_from (thread_parts (in_step r))) (thread_parts (in_step r)))
     (and_parts (has_thread (in_step r) && can_end (delta_from (thread_parts (in_step r))) (thread_parts (in_step r)))
     (list_all (λ p. can_hold r p) (settled_parts (thread_parts (in_step r)))) can).0).0
 
-module _ (d e : Disk) (depend : PartsDependOnTheirBlocks) (put : ArePartsPut d e (changed_parts d))
-    (can : can_settle (reading_of d) (in_step (reading_of d)) ≡ true) where
+-- the pairs of the parts that stay are those along the settled thread
+module _ (r : Reading) (can : can_settle r (in_step r) ≡ true) where
+  settled_is : settled r ≡ with_parts r (settled_parts (thread_parts (in_step r)))
+  settled_is = ap (λ (b : Bool). if b then with_parts r (settled_parts (thread_parts (in_step r))) else r) can
+
+  pairs_are : pairs_in (settled_parts (thread_parts (in_step r))) ≡ thread_pairs (settled r)
+  pairs_are =
+      let linked = linked_if r can in
+      thread_is r (settled_parts (thread_parts (in_step r))) (settled_once (in_step r)) (settled_within (in_step r))
+      (settled_linked (thread_parts (in_step r)) linked.linked) (settled_first (thread_parts (in_step r)) linked.first)
+      ∙ ap thread_pairs (sym settled_is)
+
+unsettled_is : (r : Reading) → can_settle r (in_step r) ≡ false → settled r ≡ r
+unsettled_is r can = ap (λ (b : Bool). if b then with_parts r (settled_parts (thread_parts (in_step r))) else r) can
+
+-- ---- the plan
+
+pub settling_plan : (d : Disk) (pairs : List Pair) (changed : List PairPart) → can_settle (later_reading_of d) (in_step (later_reading_of d)) ≡ true
+    → pairs ≡ pairs_in (settled_parts (thread_parts (in_step (later_reading_of d)))) → changed ≡ changed_parts (later_reading_of d)
+    → All (CanPut d) changed → IsPlan d pairs changed
+settling_plan d pairs changed can same_pairs same_parts can_put =
+    let r : Reading = later_reading_of d in
+    record {
+      pairs_are = same_pairs ∙ pairs_are r can;
+      changed_are = same_parts ∙ ap (λ (b : Bool). if b then changed_parts r else []) (sym can);
+      can = can_put;
+    }
+
+pub lowering_plan : (d : Disk) (pairs : List Pair) (changed : List PairPart) → can_settle (later_reading_of d) (in_step (later_reading_of d)) ≡ false
+    → pairs ≡ thread_pairs (later_reading_of d) → changed ≡ [] → IsPlan d pairs changed
+lowering_plan d pairs changed can same_pairs none =
+    let r : Reading = later_reading_of d in
+    record {
+      pairs_are = same_pairs ∙ ap thread_pairs (sym (unsettled_is r can));
+      changed_are = none ∙ ap (λ (b : Bool). if b then changed_parts r else []) (sym can);
+      can = subst (All (CanPut d)) (sym none) (All-nil (CanPut d));
+    }
+
+module _ (d : Disk) (pairs : List Pair) (changed : List PairPart) (plan : IsPlan d pairs changed) where
+  pub planned_once : (b : ℕ) → pairs_name b pairs ≤ 1
+  planned_once b = omega (arith, ap (pairs_name b) plan.pairs_are, (thread_is_front (settled_reading_of d)).once b)
+
+  pub planned_within : (b : ℕ) → 0 < pairs_name b pairs → b < d.count
+  planned_within b some =
+      subst (λ (n : ℕ). b < n) (settled_reads d).count
+      ((thread_is_front (settled_reading_of d)).within b (omega (arith, some, ap (pairs_name b) plan.pairs_are)))
+
+  put_once_by : (t : Bool) (b : ℕ) → pairs_name b (pairs_in (if t then changed_parts (later_reading_of d) else [])) ≤ 1
+  put_once_by true b = changed_once (later_reading_of d) b
+  put_once_by false b = omega arith
+
+  pub put_once : (b : ℕ) → pairs_name b (pairs_in changed) ≤ 1
+  put_once b =
+      subst (λ (ps : List PairPart). pairs_name b (pairs_in ps) ≤ 1) (sym plan.changed_are)
+      (put_once_by (can_settle (later_reading_of d) (in_step (later_reading_of d))) b)
+
+  -- what can be put on a disk can be put on one of the same blocks
+  pub still_can : (m : Disk) → m.size ≡ d.size → m.count ≡ d.count → All (CanPut m) changed
+  still_can m size count = All-weaker (CanPut d) (CanPut m) (λ p can. record {
+    apart = can.apart;
+    first = subst (λ (n : ℕ). p.0.0 < n) (sym count) can.first;
+    second = subst (λ (n : ℕ). p.0.1 < n) (sym count) can.second;
+    complete = can.complete;
+    can = ap (λ (n : ℕ). can_be_put n m.count p.1) size ∙ ap (λ (n : ℕ). can_be_put d.size n p.1) count ∙ can.can;
+  }) changed plan.can
+
+-- ---- the image
+
+module _ (lives : LivesAreRead) (depend : PartsDependOnTheirBlocks) (d m e : Disk) (disk : IsDisk d) where
+  -- what a pair holds that was lowered
+  lowered_held : (ps : List Pair) → ((b : ℕ) → 0 < pairs_name b ps → b < d.count) → ArePairsLowered d m ps → (p : Pair) → Contains ps p
+      → stored_part_of m p ≡ later_part_of d p
+  lowered_held ps within low p there =
+      let named = pairs_name_both ps p there in
+      lowered_part lives d m p disk (within p.0 named.0) (within p.1 named.1) (low.lowered p.0 named.0) (low.lowered p.1 named.1)
+
   abbrev old : Reading
-  old = reading_of d
+  old = later_reading_of d
 
   abbrev left : List PairPart
   left = settled_parts (thread_parts (in_step old))
 
-  linked_old : LinkedFrom (Some root) (thread_parts (in_step old))
-  linked_old = linked_if old can
+  module _ (can : can_settle old (in_step old) ≡ true) (low : ArePairsLowered d m (pairs_in left)) (put : ArePartsPut m e (changed_parts old)) where
+    -- a part that isn't put is held already, and its blocks are lowered
+    stays : (q : PairPart) → Contains left q → is_held old q ≡ true → stored_part_of e q.0 ≡ Some q.1
+    stays q there held =
+        let test : PairPart → Bool = λ (p : PairPart). not (is_held old p) in
+        let out : test q ≡ false = ap not held in
+        let first = omega_none q.0.0 (left_out q.0.0 test left q there out) (settled_once (in_step old) q.0.0) (names_first q.0) in
+        let second = omega_none q.0.1 (left_out q.0.1 test left q there out) (settled_once (in_step old) q.0.1) (names_second q.0) in
+        (depend e m q.0 (put.others q.0.0 first, put.others q.0.1 second)).2
+        ∙ lowered_held (pairs_in left) (settled_within (in_step old)) low q.0 (contains_mapped (λ (x : PairPart). x.0) left q there)
+        ∙ held_already old q there held
 
-  settled_is : settled old ≡ with_parts old left
-  settled_is = ap (λ (b : Bool). if b then with_parts old left else old) can
+    put_there : (q : PairPart) (t : Bool) → Contains left q → is_held old q ≡ t → stored_part_of e q.0 ≡ Some q.1
+    put_there q true there is = stays q there is
+    put_there q false there is =
+        put.held q (contains_filtered (λ (p : PairPart). not (is_held old p)) left q there (ap not is))
 
-  pairs_are : pairs_in left ≡ thread_pairs (settled old)
-  pairs_are =
-      thread_is old left (settled_once (in_step old)) (settled_within (in_step old))
-      (settled_linked (thread_parts (in_step old)) linked_old.linked) (settled_first (thread_parts (in_step old)) linked_old.first)
-      ∙ ap thread_pairs (sym settled_is)
+    held_there : (q : PairPart) → Contains left q → stored_part_of e q.0 ≡ (settled old).part q.0
+    held_there q there =
+        put_there q (is_held old q) there refl
+        ∙ sym (has_part old left (settled_once (in_step old)) q there)
+        ∙ ap (λ (x : Reading). x.part q.0) (sym (settled_is old can))
 
-  -- a part that isn't put is held already, and its blocks stay
-  stays : (q : PairPart) → Contains left q → is_held old q ≡ true → stored_part_of e q.0 ≡ Some q.1
-  stays q there held =
-      let test : PairPart → Bool = λ (p : PairPart). not (is_held old p) in
-      let out : test q ≡ false = ap not held in
-      let first = omega_none q.0.0 (left_out q.0.0 test left q there out) (settled_once (in_step old) q.0.0) (names_first q.0) in
-      let second = omega_none q.0.1 (left_out q.0.1 test left q there out) (settled_once (in_step old) q.0.1) (names_second q.0) in
-      (depend e d q.0 (put.others q.0.0 first, put.others q.0.1 second)).2 ∙ held_already old q there held
+    settled_image : IsSettledImage d e
+    settled_image = record {
+      disk = put.disk;
+      size = put.size ∙ low.size;
+      count = put.count ∙ low.count;
+      held = λ p there.
+          let q = contains_of (λ (x : PairPart). x.0) left p (subst (λ (ps : List Pair). Contains ps p) (sym (pairs_are old can)) there) in
+          subst (λ (x : Pair). stored_part_of e x ≡ (settled old).part x) q.2 (held_there q.0 q.1);
+      others = λ b none.
+          let unnamed : pairs_name b (pairs_in left) ≡ 0 = ap (pairs_name b) (pairs_are old can) ∙ none in
+          put.others b (omega (arith, fewer b (λ (p : PairPart). not (is_held old p)) left, unnamed)) ∙ low.others b unnamed;
+    }
 
-  put_there : (q : PairPart) (t : Bool) → Contains left q → is_held old q ≡ t → stored_part_of e q.0 ≡ Some q.1
-  put_there q true there is = stays q there is
-  put_there q false there is =
-      put.held q (contains_filtered (λ (p : PairPart). not (is_held old p)) left q there (ap not is))
+  -- where it can't be settled, it is lowered
+  lowered_image : can_settle old (in_step old) ≡ false → ArePairsLowered d m (thread_pairs old) → ArePartsPut m e [] → IsSettledImage d e
+  lowered_image can low put =
+      let same : settled old ≡ old = unsettled_is old can in
+      record {
+        disk = put.disk;
+        size = put.size ∙ low.size;
+        count = put.count ∙ low.count;
+        held = λ p there.
+            (depend e m p (put.others p.0 refl, put.others p.1 refl)).2
+            ∙ lowered_held (thread_pairs old) (thread_is_front old).within low p
+            (subst (λ (q : Reading). Contains (thread_pairs q) p) same there)
+            ∙ ap (λ (q : Reading). q.part p) (sym same);
+        others = λ b none.
+            put.others b refl ∙ low.others b (ap (λ (q : Reading). pairs_name b (thread_pairs q)) (sym same) ∙ none);
+      }
 
-  held_there : (q : PairPart) → Contains left q → stored_part_of e q.0 ≡ (settled old).part q.0
-  held_there q there =
-      put_there q (is_held old q) there refl
-      ∙ sym (has_part old left (settled_once (in_step old)) q there)
-      ∙ ap (λ (x : Reading). x.part q.0) (sym settled_is)
+  image_by : (pairs : List Pair) (changed : List PairPart) (t : Bool) → can_settle old (in_step old) ≡ t → IsPlan d pairs changed
+      → ArePairsLowered d m pairs → ArePartsPut m e changed → IsSettledImage d e
+  image_by pairs changed true can plan low put =
+      settled_image can
+      (subst (ArePairsLowered d m) (plan.pairs_are ∙ sym (pairs_are old can)) low)
+      (subst (ArePartsPut m e) (plan.changed_are ∙ ap (λ (b : Bool). if b then changed_parts old else []) can) put)
+  image_by pairs changed false can plan low put =
+      lowered_image can
+      (subst (ArePairsLowered d m) (plan.pairs_are ∙ ap thread_pairs (unsettled_is old can)) low)
+      (subst (ArePartsPut m e) (plan.changed_are ∙ ap (λ (b : Bool). if b then changed_parts old else []) can) put)
 
-  pub settled_image : IsSettledImage d e
-  settled_image = record {
-    disk = put.disk;
-    size = put.size;
-    count = put.count;
-    held = λ p there.
-        let q = contains_of (λ (x : PairPart). x.0) left p (subst (λ (ps : List Pair). Contains ps p) (sym pairs_are) there) in
-        subst (λ (x : Pair). stored_part_of e x ≡ (settled old).part x) q.2 (held_there q.0 q.1);
-    others = λ b none. put.others b
-        (omega (arith, fewer b (λ (p : PairPart). not (is_held old p)) left, ap (pairs_name b) pairs_are, none));
-  }
+  pub planned_image : (pairs : List Pair) (changed : List PairPart) → IsPlan d pairs changed → ArePairsLowered d m pairs
+      → ArePartsPut m e changed → IsSettledImage d e
+  planned_image pairs changed plan low put = image_by pairs changed (can_settle old (in_step old)) refl plan low put

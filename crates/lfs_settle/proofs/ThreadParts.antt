@@ -110,9 +110,12 @@ part_unstepped : (o : Option StoredPart) → option_map (stepped_part []) o ≡ 
 part_unstepped None = refl
 part_unstepped (Some s) = ap (λ (t : Tail). Some (record { entries = s.entries; tail = t; delta = s.delta })) (tail_unstepped s.tail)
 
--- where no pair is named, the thread is as it was
+-- if no pair is named, the thread is as it was
+pub unstepped_pairs : (r : Reading) → thread_pairs (stepping [] r) ≡ thread_pairs r
+unstepped_pairs r =
+    along_alike (next_pair r) (next_pair (stepping [] r)) r.count [] r.count (Some root) (λ p there. ap tail_of (part_unstepped (r.part p)))
+
 pub unstepped : (r : Reading) → thread_parts (stepping [] r) ≡ thread_parts r
 unstepped r =
-    ap (parts_held (stepping [] r))
-    (along_alike (next_pair r) (next_pair (stepping [] r)) r.count [] r.count (Some root) (λ p there. ap tail_of (part_unstepped (r.part p))))
+    ap (parts_held (stepping [] r)) (unstepped_pairs r)
     ∙ held_alike r (stepping [] r) (thread_pairs r) (λ p there. part_unstepped (r.part p))

@@ -1,6 +1,6 @@
 -- The parts along a thread, read one after another.
 use Rattle.std.proofs.Common.{◌≡◌, ℕ, zero, suc, ◌+◌, ◌≤◌, ◌==◌, Bool, true, false, List, [], ◌∷◌, ◌++◌, length, replicate, Option, Some, None}
-use Rattle.std.proofs.Common.{refl, ap, sym, ◌∙◌, arith, append-nil, append_assoc}
+use Rattle.std.proofs.Common.{refl, ap, sym, ◌∙◌, subst, arith, append-nil, append_assoc}
 use Rattle.std.specs.Prelude.{◌&&◌, if◌then◌else◌, not, slice_index_or}
 use Rattle.std.specs.List.{AllByRecursion}
 use Rattle.std.specs.Option.{is_none}
@@ -45,10 +45,8 @@ unmarked_all count = omega (arith, sum_by-replicate (λ (u : Bool). if not u the
 
 -- ---- the walk
 
-pub walked_none : (r : Reading) (used : List Bool) (parts : List PairPart) → used ≡ replicate r.count false → parts ≡ []
-    → AreWalked r used parts (Some root)
-walked_none r used parts marks none = record {
-  before = [];
+nothing_walked : (r : Reading) (used : List Bool) → used ≡ replicate r.count false → AreWalked r used [] [] (Some root)
+nothing_walked r used marks = record {
   n = r.count;
   len = ap length marks ∙ length-replicate r.count false;
   marks = λ b. ap (λ (u : List Bool). marked u b) marks ∙ marked_nothing r.count b;
@@ -56,16 +54,22 @@ walked_none r used parts marks none = record {
   left = refl;
   front = record { follow = tt; within = λ b some. absurd (omega arith); once = λ b. omega arith };
   follows = refl;
-  parts_are = none;
-  all_read = ap length none;
-  complete = rw none (All-nil (λ (p : PairPart). AllByRecursion IsComplete p.1.entries));
+  parts_are = refl;
+  all_read = refl;
+  complete = All-nil (λ (p : PairPart). AllByRecursion IsComplete p.1.entries);
 }
 
+pub walked_none : (r : Reading) (used : List Bool) (pairs : List Pair) (parts : List PairPart) → used ≡ replicate r.count false → pairs ≡ []
+    → parts ≡ [] → AreWalked r used pairs parts (Some root)
+walked_none r used pairs parts marks no_pair no_part =
+    subst (λ (ps : List Pair). AreWalked r used ps parts (Some root)) (sym no_pair)
+    (subst (λ (ps : List PairPart). AreWalked r used [] ps (Some root)) (sym no_part) (nothing_walked r used marks))
+
 -- a pair that is marked makes the front longer
-longer_front : (r : Reading) (used new : List Bool) (parts : List PairPart) (p : Pair) (h : AreWalked r used parts (Some p))
-    → AddsBlocks used new (p.0 ∷ p.1 ∷ []) → IsFront r (h.before ++ p ∷ [])
-longer_front r used new parts p h adds =
-    front_more r h.before p used new h.front h.follows h.len (λ b. let is = h.marks b in omega arith) adds
+longer_front : (r : Reading) (used new : List Bool) (before : List Pair) (parts : List PairPart) (p : Pair)
+    → AreWalked r used before parts (Some p) → AddsBlocks used new (p.0 ∷ p.1 ∷ []) → IsFront r (before ++ p ∷ [])
+longer_front r used new before parts p h adds =
+    front_more r before p used new h.front h.follows h.len (λ b. let is = h.marks b in omega arith) adds
 
 front_fresh : (r : Reading) (before : List Pair) (p : Pair) → IsFront r (before ++ p ∷ []) → IsFresh r.count before p
 front_fresh r before p front = last_fresh r.count before p (record { within = front.within; once = front.once })
@@ -99,25 +103,24 @@ left_by r before (suc n) p used new fresh enough adds left = (
       ∙ ap (λ (ps : List Pair). before ++ ps) (sym (along_more r before n p fresh)) ∙ left,
 )
 
-module _ (r : Reading) (used : List Bool) (parts : List PairPart) (p : Pair) where
-  pub walked_more : (new : List Bool) (s : StoredPart) → AreWalked r used parts (Some p) → AddsBlocks used new (p.0 ∷ p.1 ∷ [])
-      → r.part p ≡ Some s → AllByRecursion IsComplete s.entries → AreWalked r new (parts ++ (p, s) ∷ []) (next s.tail)
+module _ (r : Reading) (used : List Bool) (before : List Pair) (parts : List PairPart) (p : Pair) where
+  pub walked_more : (new : List Bool) (s : StoredPart) → AreWalked r used before parts (Some p) → AddsBlocks used new (p.0 ∷ p.1 ∷ [])
+      → r.part p ≡ Some s → AllByRecursion IsComplete s.entries → AreWalked r new (before ++ p ∷ []) (parts ++ (p, s) ∷ []) (next s.tail)
   walked_more new s h adds read complete =
-      let front = longer_front r used new parts p h adds in
-      let left = left_by r h.before h.n p used new (front_fresh r h.before p front) h.enough adds h.left in
+      let front = longer_front r used new before parts p h adds in
+      let left = left_by r before h.n p used new (front_fresh r before p front) h.enough adds h.left in
       record {
-        before = h.before ++ p ∷ [];
         n = left.0;
         len = adds.len ∙ h.len;
-        marks = λ b. let old = h.marks b in let more = adds.marks b in let all = pairs_more b h.before p in omega arith;
+        marks = λ b. let old = h.marks b in let more = adds.marks b in let all = pairs_more b before p in omega arith;
         enough = left.1;
-        left = ap (λ (o : Option Pair). (h.before ++ p ∷ []) ++ pairs_along (next_pair r) r.count (h.before ++ p ∷ []) left.0 o)
+        left = ap (λ (o : Option Pair). (before ++ p ∷ []) ++ pairs_along (next_pair r) r.count (before ++ p ∷ []) left.0 o)
             (sym (ap tail_of read))
             ∙ left.2;
         front = front;
-        follows = next_more r h.before p (p, s) read;
-        parts_are = ap (λ (xs : List PairPart). xs ++ (p, s) ∷ []) h.parts_are ∙ sym (held_more r h.before p s read);
-        all_read = omega (arith, h.all_read, length-append parts ((p, s) ∷ []), length-append h.before (p ∷ []));
+        follows = next_more r before p (p, s) read;
+        parts_are = ap (λ (xs : List PairPart). xs ++ (p, s) ∷ []) h.parts_are ∙ sym (held_more r before p s read);
+        all_read = omega (arith, h.all_read, length-append parts ((p, s) ∷ []), length-append before (p ∷ []));
         complete = All-push (λ (q : PairPart). AllByRecursion IsComplete q.1.entries) parts (p, s) h.complete complete;
       }
 
@@ -127,14 +130,16 @@ module _ (r : Reading) (used : List Bool) (parts : List PairPart) (p : Pair) whe
 abbrev is_whole : Reading → List Pair → Bool
 is_whole r ps = (length (parts_held r ps) == length ps) && is_none (next_after r ps)
 
--- parts that are read along a thread, which is whole or not
-pub record IsWalkedThrough (r : Reading) (parts : List PairPart) (whole : Bool) : Type 0 where
+-- the pairs along a thread, which is whole or not, and the parts that are read of them
+pub record IsWalkedThrough (r : Reading) (pairs : List Pair) (parts : List PairPart) (whole : Bool) : Type 0 where
+  pub pairs_are : pairs ≡ thread_pairs r
   pub parts_are : parts ≡ thread_parts r
   pub whole_is : whole ≡ has_thread r
 
 through : (r : Reading) (ps : List Pair) (parts : List PairPart) (whole : Bool) → ps ≡ thread_pairs r → parts ≡ parts_held r ps
-    → is_whole r ps ≡ whole → IsWalkedThrough r parts whole
+    → is_whole r ps ≡ whole → IsWalkedThrough r ps parts whole
 through r ps parts whole all are is = record {
+  pairs_are = all;
   parts_are = are ∙ ap (parts_held r) all;
   whole_is = sym is ∙ ap (is_whole r) all;
 }
@@ -144,14 +149,15 @@ along_stops : (step : Pair → Option Pair) (count : ℕ) (before : List Pair) (
 along_stops step count before zero p is = refl
 along_stops step count before (suc n) p is = rw is refl
 
--- where no pair follows
-pub walked_all : (r : Reading) (used : List Bool) (parts : List PairPart) → AreWalked r used parts None → IsWalkedThrough r parts true
-walked_all r used parts h =
-    let all : h.before ≡ thread_pairs r =
-    sym (append-nil h.before) ∙ ap (λ (ps : List Pair). h.before ++ ps) (sym (along_none (next_pair r) r.count h.before h.n)) ∙ h.left in
-    through r h.before parts true all h.parts_are
-    (ap (λ (b : Bool). b && is_none (next_after r h.before))
-    (eq-eqb (length (parts_held r h.before)) (length h.before) (ap length (sym h.parts_are) ∙ h.all_read))
+-- if no pair follows
+pub walked_all : (r : Reading) (used : List Bool) (before : List Pair) (parts : List PairPart) → AreWalked r used before parts None
+    → IsWalkedThrough r before parts true
+walked_all r used before parts h =
+    let all : before ≡ thread_pairs r =
+    sym (append-nil before) ∙ ap (λ (ps : List Pair). before ++ ps) (sym (along_none (next_pair r) r.count before h.n)) ∙ h.left in
+    through r before parts true all h.parts_are
+    (ap (λ (b : Bool). b && is_none (next_after r before))
+    (eq-eqb (length (parts_held r before)) (length before) (ap length (sym h.parts_are) ∙ h.all_read))
     ∙ ap is_none h.follows)
 
 -- a pair that can't be marked isn't fresh
@@ -169,38 +175,38 @@ taken_pair r BlockTwice used before p len marks (b, twice) fresh =
     grind (arith, nat_tests)
 taken_pair r _ used before p len marks taken fresh = absurd taken
 
-module _ (r : Reading) (used : List Bool) (parts : List PairPart) (p : Pair) where
-  -- where the next one can't be marked
-  pub walked_taken : (fault : MountFault) → AreWalked r used parts (Some p) → AreTaken fault used (p.0 ∷ p.1 ∷ [])
-      → IsWalkedThrough r parts false
+module _ (r : Reading) (used : List Bool) (before : List Pair) (parts : List PairPart) (p : Pair) where
+  -- if the next one can't be marked
+  pub walked_taken : (fault : MountFault) → AreWalked r used before parts (Some p) → AreTaken fault used (p.0 ∷ p.1 ∷ [])
+      → IsWalkedThrough r before parts false
   walked_taken fault h taken =
-      let stale : is_fresh r.count h.before p ≡ false = false_from_ne_true (is_fresh r.count h.before p)
-      (λ is. taken_pair r fault used h.before p h.len h.marks taken (fresh_is r.count h.before p is)) in
-      let all : h.before ≡ thread_pairs r =
-      sym (append-nil h.before) ∙ ap (λ (ps : List Pair). h.before ++ ps) (sym (along_stops (next_pair r) r.count h.before h.n p stale))
-      ∙ h.left in
-      through r h.before parts false all h.parts_are
-      (and_right (length (parts_held r h.before) == length h.before) (is_none (next_after r h.before)) (ap is_none h.follows))
-
-  unread_by : (new : List Bool) (m : ℕ) (h : AreWalked r used parts (Some p)) → r.part p ≡ None
-      → (h.before ++ p ∷ []) ++ pairs_along (next_pair r) r.count (h.before ++ p ∷ []) m (next_pair r p) ≡ thread_pairs r
-      → IsWalkedThrough r parts false
-  unread_by new m h read left =
-      let before : List Pair = h.before ++ p ∷ [] in
+      let stale : is_fresh r.count before p ≡ false = false_from_ne_true (is_fresh r.count before p)
+      (λ is. taken_pair r fault used before p h.len h.marks taken (fresh_is r.count before p is)) in
       let all : before ≡ thread_pairs r =
-      sym (append-nil before)
-      ∙ ap (λ (ps : List Pair). before ++ ps) (sym (along_none (next_pair r) r.count before m))
-      ∙ ap (λ (o : Option Pair). before ++ pairs_along (next_pair r) r.count before m o) (sym (ap tail_of read)) ∙ left in
-      let held : parts_held r before ≡ parts_held r h.before = held_as_before r h.before p read in
-      let len : length (parts_held r before) ≡ length h.before = ap length held ∙ ap length (sym h.parts_are) ∙ h.all_read in
-      through r before parts false all (h.parts_are ∙ sym held)
-      (and_left (length (parts_held r before) == length before) (is_none (next_after r before))
-      (ne_eqb (length (parts_held r before)) (length before) (λ same. omega (arith, same, len, length-append h.before (p ∷ [])))))
+      sym (append-nil before) ∙ ap (λ (ps : List Pair). before ++ ps) (sym (along_stops (next_pair r) r.count before h.n p stale))
+      ∙ h.left in
+      through r before parts false all h.parts_are
+      (and_right (length (parts_held r before) == length before) (is_none (next_after r before)) (ap is_none h.follows))
 
-  -- where the next one holds no part
-  pub walked_unread : (new : List Bool) → AreWalked r used parts (Some p) → AddsBlocks used new (p.0 ∷ p.1 ∷ []) → r.part p ≡ None
-      → IsWalkedThrough r parts false
+  unread_by : (new : List Bool) (m : ℕ) (h : AreWalked r used before parts (Some p)) → r.part p ≡ None
+      → (before ++ p ∷ []) ++ pairs_along (next_pair r) r.count (before ++ p ∷ []) m (next_pair r p) ≡ thread_pairs r
+      → IsWalkedThrough r (before ++ p ∷ []) parts false
+  unread_by new m h read left =
+      let with_it : List Pair = before ++ p ∷ [] in
+      let all : with_it ≡ thread_pairs r =
+      sym (append-nil with_it)
+      ∙ ap (λ (ps : List Pair). with_it ++ ps) (sym (along_none (next_pair r) r.count with_it m))
+      ∙ ap (λ (o : Option Pair). with_it ++ pairs_along (next_pair r) r.count with_it m o) (sym (ap tail_of read)) ∙ left in
+      let held : parts_held r with_it ≡ parts_held r before = held_as_before r before p read in
+      let len : length (parts_held r with_it) ≡ length before = ap length held ∙ ap length (sym h.parts_are) ∙ h.all_read in
+      through r with_it parts false all (h.parts_are ∙ sym held)
+      (and_left (length (parts_held r with_it) == length with_it) (is_none (next_after r with_it))
+      (ne_eqb (length (parts_held r with_it)) (length with_it) (λ same. omega (arith, same, len, length-append before (p ∷ [])))))
+
+  -- if the next one holds no part
+  pub walked_unread : (new : List Bool) → AreWalked r used before parts (Some p) → AddsBlocks used new (p.0 ∷ p.1 ∷ []) → r.part p ≡ None
+      → IsWalkedThrough r (before ++ p ∷ []) parts false
   walked_unread new h adds read =
-      let front = longer_front r used new parts p h adds in
-      let left = left_by r h.before h.n p used new (front_fresh r h.before p front) h.enough adds h.left in
+      let front = longer_front r used new before parts p h adds in
+      let left = left_by r before h.n p used new (front_fresh r before p front) h.enough adds h.left in
       unread_by new left.0 h read left.2

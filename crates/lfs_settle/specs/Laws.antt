@@ -11,10 +11,9 @@ use Rattle.lfs_fs.specs.Sound.{IsSound}
 use Rattle.lfs_fs.specs.Thread.{next}
 use Rattle.lfs_fs.specs.Volume.{Volume}
 use Rattle.std.specs.List.{filter}
-use Rattle.lfs_settle.specs.InStep.{in_step, thread_pairs}
 use Rattle.lfs_settle.specs.Moved.{is_move, means, moved_entry, unmoved}
 use Rattle.lfs_settle.specs.Reached.{begins_in, groups, named_by, named_within, reached_of}
-use Rattle.lfs_settle.specs.Settled.{IsSettledImage, settled, settled_parts}
+use Rattle.lfs_settle.specs.Settled.{IsSettledImage, settled, settled_parts, settled_reading_of}
 
 -- ---- lists of parts
 
@@ -72,22 +71,11 @@ ClosedAreReached = (gs : List (List PairPart)) (test : List PairPart → Bool) �
 
 -- ---- images
 
--- the law: a settled image holds the sound volumes that the other one holds once it is settled, and no other
+-- the law: a settled image holds the sound volumes that version 2.1 reads in the other one once it is settled, and no other
 abbrev pub SettledImagesHoldWhatIsRead : Type 0
 SettledImagesHoldWhatIsRead = (d e : Disk) (v : Volume) → IsDisk d → IsSettledImage d e → IsSound v
-    → Holds (reading_of e) v ↔ Holds (settled (reading_of d)) v
+    → Holds (reading_of e) v ↔ Holds (settled_reading_of d) v
 
 -- the law: a sound volume that is held stays
 abbrev pub SettledStays : Type 0
 SettledStays = (r : Reading) (v : Volume) → IsSound v → Holds r v → Holds (settled r) v
-
--- two readings have one thread, along which pairs hold the same
-pub record AgreeAlong (r q : Reading) : Type 0 where
-  pub pairs : thread_pairs q ≡ thread_pairs r
-  pub parts : (p : Pair) → Contains (thread_pairs r) p → q.part p ≡ r.part p
-
--- the law: what an image is once it is settled depends on the parts along its thread, as it is and in step
-abbrev pub SettledDependsOnThreads : Type 0
-SettledDependsOnThreads = (r q : Reading) → q.size ≡ r.size → q.count ≡ r.count
-    → ((p : Pair) → Contains (thread_pairs r) p → q.part p ≡ r.part p)
-    → ((p : Pair) → Contains (thread_pairs (in_step r)) p → q.part p ≡ r.part p) → AgreeAlong (settled r) (settled q)

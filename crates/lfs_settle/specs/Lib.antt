@@ -1,10 +1,16 @@
+pub mod ByDevice
 pub mod Grouping
 pub mod InStep
 pub mod Laws
+pub mod Lowered
 pub mod Moved
+pub mod Planned
 pub mod Reached
 pub mod Reaching
+pub mod ReadAs
+pub mod Relaid
 pub mod Settled
 pub mod Steps
 pub mod Threading
 pub mod Walked
+pub mod Within

@@ -13,8 +13,9 @@ use Rattle.lfs_meta.specs.Part.{StoredPart}
 use Rattle.lfs_fs.specs.Pair.{same_pair}
 use Rattle.lfs_fs.specs.Front.{pairs_name}
 use Rattle.lfs_fs.specs.Gathering.{PairPart, delta_from}
-use Rattle.lfs_fs.specs.Reading.{Reading, reading_of}
+use Rattle.lfs_fs.specs.Reading.{Reading}
 use Rattle.lfs_fs.specs.Thread.{soft_to}
+use Rattle.lfs_lower.specs.LaterReading.{later_reading_of}
 use Rattle.lfs_lower.specs.OneSuperblock.{can_be_put}
 use Rattle.lfs_settle.specs.InStep.{has_thread, in_step, thread_pairs, thread_parts}
 use Rattle.lfs_settle.specs.Moved.{can_end, unmoved}
@@ -100,10 +101,14 @@ settled r = settled_by r (in_step r)
 
 -- ---- the image
 
+-- how a reader of version 2.1 reads an image, as the device's next change leaves it
+abbrev pub settled_reading_of : Disk → Reading
+settled_reading_of d = settled (later_reading_of d)
+
 -- the pairs of the settled thread hold what they count as, and all other blocks are as they were
 pub record IsSettledImage (d e : Disk) : Type 0 where
   pub disk : IsDisk e
   pub size : e.size ≡ d.size
   pub count : e.count ≡ d.count
-  pub held : (p : Pair) → Contains (thread_pairs (settled (reading_of d))) p → stored_part_of e p ≡ (settled (reading_of d)).part p
-  pub others : (b : ℕ) → pairs_name b (thread_pairs (settled (reading_of d))) ≡ 0 → block_of e b ≡ block_of d b
+  pub held : (p : Pair) → Contains (thread_pairs (settled_reading_of d)) p → stored_part_of e p ≡ (settled_reading_of d).part p
+  pub others : (b : ℕ) → pairs_name b (thread_pairs (settled_reading_of d)) ≡ 0 → block_of e b ≡ block_of d b

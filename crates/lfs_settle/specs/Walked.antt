@@ -11,9 +11,8 @@ use Rattle.lfs_lower.specs.Joining.{parts_held}
 use Rattle.lfs_lower.specs.OneSuperblock.{pairs_along}
 use Rattle.lfs_settle.specs.InStep.{thread_pairs}
 
--- Parts are read of the first pairs of a thread, whose blocks are marked, and this pair may follow.
-pub record AreWalked (r : Reading) (used : List Bool) (parts : List PairPart) (from : Option Pair) : Type 0 where
-  pub before : List Pair
+-- Parts are read of these pairs, the first of a thread, whose blocks are marked, and this pair may follow.
+pub record AreWalked (r : Reading) (used : List Bool) (before : List Pair) (parts : List PairPart) (from : Option Pair) : Type 0 where
   pub n : ℕ
   pub len : length used ≡ r.count
   pub marks : Marks used (λ b. pairs_name b before)

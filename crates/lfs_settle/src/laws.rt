@@ -1,6 +1,7 @@
 //! Laws of settled images: each function does nothing but call laws, and its contract is the law.
 
-ghost use Rattle.lfs_settle.specs.Laws.{ClosedAreReached, MovedEntryGoes, NamedAreReached, OthersStay, SettledAreLinked, SettledDependsOnThreads, SettledHaveNoState, SettledImagesHoldWhatIsRead, SettledNameNoMore, SettledStay, SettledStays};
+ghost use Rattle.lfs_settle.specs.Relaid.{RelaidImagesHoldWhatIsRead};
+ghost use Rattle.lfs_settle.specs.Laws.{ClosedAreReached, MovedEntryGoes, NamedAreReached, OthersStay, SettledAreLinked, SettledHaveNoState, SettledImagesHoldWhatIsRead, SettledNameNoMore, SettledStay, SettledStays};
 
 use lfs_file::chains_stay_on_their_blocks;
 use lfs_fs::{both_sides_hold, same_readings_hold_the_same, stored_links_stay};
@@ -26,7 +27,7 @@ pub fn reached_directories_are_closed()
     ensures closed { ClosedAreReached }
 {}
 
-/// A law: a settled image holds the sound volumes that the other one holds once it is settled, and no other.
+/// A law: a settled image holds the sound volumes that version 2.1 reads in the other one once it is settled, and no other.
 pub fn settled_images_hold_what_is_read()
     ensures { SettledImagesHoldWhatIsRead }
 {
@@ -43,7 +44,12 @@ pub fn settled_stays()
     same_readings_hold_the_same();
 }
 
-/// A law: what an image is once it is settled depends on the parts along its thread, as it is and in step, alone.
-pub fn settled_depends_on_its_threads()
-    ensures { SettledDependsOnThreads }
-{}
+/// A law: an image that is settled and then joined holds the sound volumes that a device reads in the other one, and no other.
+pub fn relaid_images_hold_what_is_read()
+    ensures { RelaidImagesHoldWhatIsRead }
+{
+    chains_stay_on_their_blocks();
+    stored_links_stay();
+    both_sides_hold();
+    same_readings_hold_the_same();
+}

@@ -1,12 +1,14 @@
-//! Images that a device left unfinished, as its next change leaves them: the moved entry is gone from its old place, and so are the
-//! directories that no path leads to.
+//! Images as devices read them: what a device left unfinished is read as its next change leaves it. The moved entry is gone from its
+//! old place, and so are the directories that no path leads to. And the image with which bytes begin.
 #![tactic(auto)]
 
+mod by_device;
 mod groups;
 mod laws;
+mod lowering;
 mod moved;
 mod pairs;
-mod putting;
+mod planning;
 mod reached;
 mod settled_parts;
 mod settling;
@@ -14,9 +16,12 @@ mod state;
 mod steps;
 mod thread;
 mod threading;
+mod within;
 
+pub use by_device::read_by_device;
 pub use laws::{
-    moved_entries_go, reached_directories_are_closed, settled_depends_on_its_threads,
+    moved_entries_go, reached_directories_are_closed, relaid_images_hold_what_is_read,
     settled_images_hold_what_is_read, settled_parts_are_a_thread, settled_stays,
 };
 pub use settling::settle;
+pub use within::{read_as, read_within};

@@ -112,8 +112,9 @@ const EXPLANATIONS: [Explanation; 50] = [
     Explanation {
         number: 15,
         name: "BlockTwice",
-        text: "Two things use one block, or two names lead to one directory. The image is damaged; nothing \
-         of it may be changed safely.",
+        text: "Two things use one block, or two names lead to one directory. If a device was stopped while \
+         it moved a directory, `--device` reads the image. Otherwise it is damaged; nothing of it may be \
+         changed safely.",
     },
     Explanation {
         number: 16,
@@ -123,27 +124,23 @@ const EXPLANATIONS: [Explanation; 50] = [
     Explanation {
         number: 17,
         name: "Orphan",
-        text: "A directory can't be reached from the root: a device lost its power while it made or removed \
-         it. What mends it is a mount for writing and a change by a littlefs. One before 2.6, or one \
-         that is kept at disk version 2.0 (10), leaves an image of that; any other leaves one of 2.1, \
-         and `repack --device` makes one of 2.0 of it.",
+        text: "A directory can't be reached from the root: a device was stopped while it made, removed or \
+         moved one. `--device` reads the image without it, and `repack --device` makes an image of the \
+         rest. If it is refused with `--device` too, it is damaged.",
     },
     Explanation {
         number: 18,
         name: "UnfinishedMove",
-        text: "A device lost its power while it moved something. What ends the move is a mount for writing \
-         and a change by a littlefs. One before 2.6, or one that is kept at disk version 2.0 (10), \
-         leaves an image of that; any other leaves one of 2.1, and `repack --device` makes one of 2.0 \
-         of it.",
+        text: "A device was stopped while it moved something. `--device` reads that at its new place alone, \
+         and `repack --device` makes an image of that. If it is refused with `--device` too, it is damaged.",
     },
     Explanation {
         number: 19,
         name: "SuperblockElsewhere",
-        text: "A superblock stands behind the first one: a device makes such a chain where its root is \
-         changed very often and `lfs_config.block_cycles` isn't -1. `--device` reads it, and `repack \
-         --device` makes an image with a single superblock of it. Where it is told with `--device`, \
-         the image is damaged, or the attributes of `/` leave no room for that: read its files with \
-         littlefs, and `pack` them into a new image.",
+        text: "A superblock stands after the first one: a device whose root is changed very often makes \
+         such a chain, unless `lfs_config.block_cycles` is -1. `--device` reads it, and `repack --device` \
+         makes an image with one superblock. If it is refused with `--device` too, it is damaged, or the \
+         attributes of `/` leave no room: read its files with littlefs, and `pack` them.",
     },
     Explanation {
         number: 20,

@@ -1,6 +1,6 @@
 -- The image is read of a copy of the file's bytes.
 use Rattle.std.proofs.Common.{◌≡◌, ◌++◌, ◌∙◌, ℕ, List, IfOk, ap, drop, subst, take, true}
-use Rattle.lfs_lower.specs.ReadAs.{IsReadAs}
+use Rattle.lfs_settle.specs.ReadAs.{IsReadAs}
 use Rattle.lfs_find.specs.Found.{extent}
 use Rattle.lfs_find.proofs.judging.read_at.Goals as goal
 

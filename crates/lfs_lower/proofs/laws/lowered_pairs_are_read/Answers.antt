@@ -1,4 +1,4 @@
-use Rattle.lfs_lower.proofs.LoweredAlong.{lowered_part}
+use Rattle.lfs_lower.proofs.LoweredPairs.{lowered_part}
 use Rattle.lfs_lower.proofs.laws.lowered_pairs_are_read.Goals as goal
 
 pub returns : goal.returns

@@ -1,7 +1,7 @@
 use Rattle.std.proofs.Common.{◌≡◌, ap, ◌∙◌}
 use Rattle.lfs_block.specs.Disk.{block_of}
 use Rattle.lfs_lower.specs.Spelled.{is_root_block, lowered_block}
-use Rattle.lfs_lower.proofs.LoweredAlong.{block_lowered, lowered_len}
+use Rattle.lfs_lower.proofs.LoweredPairs.{block_lowered, lowered_len}
 use Rattle.lfs_lower.proofs.lowering.lower_block.Goals as goal
 
 pub write_block-requires-clause-complete : goal.write_block-requires-clause-complete

@@ -1,38 +1,46 @@
--- Where the thread is whole and its state can be ended, it is; else nothing is changed.
-use Rattle.std.proofs.Common.{◌≡◌, true, Bool, List, ap, sym, ◌∙◌}
-use Rattle.std.specs.Prelude.{◌&&◌}
-use Rattle.std.specs.List.{list_all}
-use Rattle.std.proofs.lemmas.Bool.{and_left}
+-- The pairs of the plan are lowered, and its parts are put.
+use Rattle.std.proofs.Common.{◌≡◌, ◌<◌, ◌≤◌, ℕ, List, map, sym, subst}
+use Rattle.std.specs.Prelude.{All}
+use Rattle.std.proofs.lemmas.Result.{IfOk-weaker}
 use Rattle.lfs_block.specs.Disk.{Disk}
-use Rattle.lfs_fs.specs.Gathering.{PairPart, delta_from}
-use Rattle.lfs_fs.specs.Reading.{Reading, reading_of}
-use Rattle.lfs_settle.specs.InStep.{has_thread, in_step, thread_parts}
-use Rattle.lfs_settle.specs.Moved.{can_end}
-use Rattle.lfs_settle.specs.Settled.{can_hold, settled_parts}
-use Rattle.lfs_settle.proofs.SettledBlocks.{unsettled_is}
+use Rattle.lfs_meta.specs.Body.{Pair}
+use Rattle.lfs_fs.specs.Front.{pairs_name}
+use Rattle.lfs_fs.specs.Gathering.{PairPart}
+use Rattle.lfs_lower.specs.Joining.{ArePartsPut, CanPut}
+use Rattle.lfs_settle.specs.Lowered.{ArePairsLowered}
+use Rattle.lfs_settle.proofs.SettledBlocks.{planned_image, planned_once, planned_within, put_once, still_can}
 use Rattle.lfs_settle.proofs.settling.settle.Goals as goal
 
-pub end_thread-requires-clause-along : goal.end_thread-requires-clause-along
-end_thread-requires-clause-along c = c.in_ok-thread.ensures.parts
+pub lower_pairs-requires-clause-within : goal.lower_pairs-requires-clause-within
+lower_pairs-requires-clause-within c = λ b some.
+    planned_within c.args.image.now.disk c.in_ok-plan.plan.pairs.items c.in_ok-plan.plan.changed.items c.in_ok-plan.ensures b
+    (subst (λ (ps : List Pair). 0 < pairs_name b ps) c.deref.ensures.value some)
 
-pub end_thread-requires-clause-complete : goal.end_thread-requires-clause-complete
-end_thread-requires-clause-complete c = c.in_ok-thread.ensures.complete
+pub lower_pairs-requires-clause-apart : goal.lower_pairs-requires-clause-apart
+lower_pairs-requires-clause-apart c = λ b.
+    subst (λ (ps : List Pair). pairs_name b ps ≤ 1) (sym c.deref.ensures.value)
+    (planned_once c.args.image.now.disk c.in_ok-plan.plan.pairs.items c.in_ok-plan.plan.changed.items c.in_ok-plan.ensures b)
 
-pub end_thread-requires-clause-ended : goal.end_thread-requires-clause-ended
-end_thread-requires-clause-ended c =
-    ap (λ (b : Bool). b && can_end (delta_from c.in_ok-thread.thread.parts.items) c.in_ok-thread.thread.parts.items)
-    (sym c.in_ok-thread.ensures.whole)
-    ∙ sym c.can_be_ended.ensures ∙ c.if-can_be_ended.true
+pub put_parts-requires-clause-can : goal.put_parts-requires-clause-can
+put_parts-requires-clause-can c =
+    let m : Disk = c.lower_pairs.new.image.disk in
+    subst (All (CanPut m)) (sym c.deref-2.ensures.value)
+    (still_can c.args.image.now.disk c.in_ok-plan.plan.pairs.items c.in_ok-plan.plan.changed.items c.in_ok-plan.ensures m
+    c.in_ok-lower_pairs.ensures.size c.in_ok-lower_pairs.ensures.count)
 
-pub returns-else-can_be_ended : goal.returns-else-can_be_ended
-returns-else-can_be_ended c =
+pub put_parts-requires-clause-apart : goal.put_parts-requires-clause-apart
+put_parts-requires-clause-apart c = λ b.
+    subst (λ (ps : List PairPart). pairs_name b (map (λ (p : PairPart). p.0) ps) ≤ 1) (sym c.deref-2.ensures.value)
+    (put_once c.args.image.now.disk c.in_ok-plan.plan.pairs.items c.in_ok-plan.plan.changed.items c.in_ok-plan.ensures b)
+
+pub returns : goal.returns
+returns c =
     let d : Disk = c.args.image.now.disk in
-    let r : Reading = reading_of d in
-    let ended : c.can_be_ended.result
-    ≡ (has_thread (in_step r) && can_end (delta_from (thread_parts (in_step r))) (thread_parts (in_step r))) =
-    c.can_be_ended.ensures
-    ∙ ap (λ (b : Bool). b && can_end (delta_from c.in_ok-thread.thread.parts.items) c.in_ok-thread.thread.parts.items) c.in_ok-thread.ensures.whole
-    ∙ ap (λ (ps : List PairPart). has_thread (in_step r) && can_end (delta_from ps) ps) c.in_ok-thread.ensures.parts in
-    unsettled_is d c.size-fits_the_limits.ensures.disk
-    (and_left (has_thread (in_step r) && can_end (delta_from (thread_parts (in_step r))) (thread_parts (in_step r)))
-    (list_all (λ p. can_hold r p) (settled_parts (thread_parts (in_step r)))) (sym ended ∙ c.if-can_be_ended.false))
+    let m : Disk = c.lower_pairs.new.image.disk in
+    let pairs : List Pair = c.in_ok-plan.plan.pairs.items in
+    let changed : List PairPart = c.in_ok-plan.plan.changed.items in
+    let low : ArePairsLowered d m pairs = subst (ArePairsLowered d m) c.deref.ensures.value c.in_ok-lower_pairs.ensures in
+    IfOk-weaker c.put_parts.result _ _ (λ done put.
+    planned_image c.lowered_blocks_are_read.ensures.lives c.parts_depend_on_their_blocks.ensures d m c.put_parts.new.image.disk
+    c.size-fits_the_limits.ensures.disk pairs changed c.in_ok-plan.ensures low
+    (subst (ArePartsPut m c.put_parts.new.image.disk) c.deref-2.ensures.value put)) c.put_parts.ensures

@@ -5,7 +5,7 @@ use Rattle.std.specs.List.{AllByRecursion}
 use Rattle.lfs_meta.specs.Body.{Pair}
 use Rattle.lfs_meta.specs.Complete.{IsComplete}
 use Rattle.lfs_fs.specs.Gathering.{PairPart}
-use Rattle.lfs_fs.specs.Reading.{reading_of}
+use Rattle.lfs_lower.specs.LaterReading.{later_reading_of}
 use Rattle.lfs_fs.specs.Thread.{next}
 use Rattle.lfs_fs.specs.Used.{AddsBlocks, AreTaken}
 use Rattle.lfs_fs.proofs.ThreadReadLemmas.{pair_within}
@@ -17,66 +17,91 @@ use Rattle.lfs_settle.proofs.thread.read_thread.Goals as goal
 
 pub walk-init : goal.walk-init
 walk-init g c =
-    walked_none (stepping c.args.steps.now (reading_of (g.B.Blocks.disk c.args.blocks.now))) c.as_mut_slice-table.result.now
-    c.new-parts.result.items
+    walked_none (stepping c.args.steps.now (later_reading_of (g.B.Blocks.disk c.args.blocks.now))) c.as_mut_slice-table.result.now
+    c.new-pairs.result.items c.new-parts.result.items
     (c.as_mut_slice-table.ensures.value ∙ c.in_ok-used.ensures.items_if_clones_equal (λ y same. same)
-    ∙ ap (λ n. replicate n false) c.count.ensures) c.new-parts.ensures.items
+    ∙ ap (λ n. replicate n false) c.count.ensures) c.new-pairs.ensures.items c.new-parts.ensures.items
+
+pub returns-then-is_err-clause-pairs : goal.returns-then-is_err-clause-pairs
+returns-then-is_err-clause-pairs g c =
+    let r = stepping c.args.steps.now (later_reading_of (g.B.Blocks.disk c.args.blocks.now)) in
+    let refused = refused_by c.mark_all.result (λ fault. AreTaken fault c.walk.table (c.in-Some.pair.0 ∷ c.in-Some.pair.1 ∷ []))
+    (sym c.is_err.ensures.value ∙ c.if-is_err.true) c.mark_all.ensures.refused in
+    (walked_taken r c.walk.table c.walk.pairs.items c.walk.parts.items c.in-Some.pair refused.0
+    (subst (λ (o : Option Pair). AreWalked r c.walk.table c.walk.pairs.items c.walk.parts.items o) c.in-Some.is c.walk.invariant)
+    refused.1).pairs_are
 
 pub returns-then-is_err-clause-parts : goal.returns-then-is_err-clause-parts
 returns-then-is_err-clause-parts g c =
-    let r = stepping c.args.steps.now (reading_of (g.B.Blocks.disk c.args.blocks.now)) in
+    let r = stepping c.args.steps.now (later_reading_of (g.B.Blocks.disk c.args.blocks.now)) in
     let refused = refused_by c.mark_all.result (λ fault. AreTaken fault c.walk.table (c.in-Some.pair.0 ∷ c.in-Some.pair.1 ∷ []))
     (sym c.is_err.ensures.value ∙ c.if-is_err.true) c.mark_all.ensures.refused in
-    (walked_taken r c.walk.table c.walk.parts.items c.in-Some.pair refused.0
-    (subst (λ (o : Option Pair). AreWalked r c.walk.table c.walk.parts.items o) c.in-Some.is c.walk.invariant) refused.1).parts_are
+    (walked_taken r c.walk.table c.walk.pairs.items c.walk.parts.items c.in-Some.pair refused.0
+    (subst (λ (o : Option Pair). AreWalked r c.walk.table c.walk.pairs.items c.walk.parts.items o) c.in-Some.is c.walk.invariant)
+    refused.1).parts_are
 
 pub returns-then-is_err-clause-whole : goal.returns-then-is_err-clause-whole
 returns-then-is_err-clause-whole g c =
-    let r = stepping c.args.steps.now (reading_of (g.B.Blocks.disk c.args.blocks.now)) in
+    let r = stepping c.args.steps.now (later_reading_of (g.B.Blocks.disk c.args.blocks.now)) in
     let refused = refused_by c.mark_all.result (λ fault. AreTaken fault c.walk.table (c.in-Some.pair.0 ∷ c.in-Some.pair.1 ∷ []))
     (sym c.is_err.ensures.value ∙ c.if-is_err.true) c.mark_all.ensures.refused in
-    (walked_taken r c.walk.table c.walk.parts.items c.in-Some.pair refused.0
-    (subst (λ (o : Option Pair). AreWalked r c.walk.table c.walk.parts.items o) c.in-Some.is c.walk.invariant) refused.1).whole_is
+    (walked_taken r c.walk.table c.walk.pairs.items c.walk.parts.items c.in-Some.pair refused.0
+    (subst (λ (o : Option Pair). AreWalked r c.walk.table c.walk.pairs.items c.walk.parts.items o) c.in-Some.is c.walk.invariant)
+    refused.1).whole_is
 
-pub part_at-requires-clause-first : goal.part_at-requires-clause-first
-part_at-requires-clause-first g c =
-    let r = reading_of (g.B.Blocks.disk c.args.blocks.now) in
+pub later_part_at-requires-clause-first : goal.later_part_at-requires-clause-first
+later_part_at-requires-clause-first g c =
+    let r = later_reading_of (g.B.Blocks.disk c.args.blocks.now) in
     let marked = marked_by c.mark_all.result (AddsBlocks c.walk.table c.mark_all.new.used (c.in-Some.pair.0 ∷ c.in-Some.pair.1 ∷ []))
     (sym c.is_err.ensures.value ∙ c.if-is_err.false) c.mark_all.ensures.marked in
     (pair_within r c.in-Some.pair c.walk.table c.mark_all.new.used c.walk.invariant.len marked).0
 
-pub part_at-requires-clause-second : goal.part_at-requires-clause-second
-part_at-requires-clause-second g c =
-    let r = reading_of (g.B.Blocks.disk c.args.blocks.now) in
+pub later_part_at-requires-clause-second : goal.later_part_at-requires-clause-second
+later_part_at-requires-clause-second g c =
+    let r = later_reading_of (g.B.Blocks.disk c.args.blocks.now) in
     let marked = marked_by c.mark_all.result (AddsBlocks c.walk.table c.mark_all.new.used (c.in-Some.pair.0 ∷ c.in-Some.pair.1 ∷ []))
     (sym c.is_err.ensures.value ∙ c.if-is_err.false) c.mark_all.ensures.marked in
     (pair_within r c.in-Some.pair c.walk.table c.mark_all.new.used c.walk.invariant.len marked).1
 
-pub returns-in_default-2-clause-parts : goal.returns-in_default-2-clause-parts
-returns-in_default-2-clause-parts g c =
-    let before = reading_of (g.B.Blocks.disk c.args.blocks.now) in
+pub returns-in_default-2-clause-pairs : goal.returns-in_default-2-clause-pairs
+returns-in_default-2-clause-pairs g c =
+    let before = later_reading_of (g.B.Blocks.disk c.args.blocks.now) in
     let r = stepping c.args.steps.now before in
     let marked = marked_by c.mark_all.result (AddsBlocks c.walk.table c.mark_all.new.used (c.in-Some.pair.0 ∷ c.in-Some.pair.1 ∷ []))
     (sym c.is_err.ensures.value ∙ c.if-is_err.false) c.mark_all.ensures.marked in
-    (walked_unread r c.walk.table c.walk.parts.items c.in-Some.pair c.mark_all.new.used
-    (subst (λ (o : Option Pair). AreWalked r c.walk.table c.walk.parts.items o) c.in-Some.is c.walk.invariant) marked
+    let through = walked_unread r c.walk.table c.walk.pairs.items c.walk.parts.items c.in-Some.pair c.mark_all.new.used
+    (subst (λ (o : Option Pair). AreWalked r c.walk.table c.walk.pairs.items c.walk.parts.items o) c.in-Some.is c.walk.invariant) marked
     (ap (option_map (stepped_part c.args.steps.now))
-    (subst (λ (o : Option PairPart). IfNone o (before.part c.in-Some.pair ≡ None)) c.in_default-2.is c.in_ok-part.ensures.none))).parts_are
+    (subst (λ (o : Option PairPart). IfNone o (before.part c.in-Some.pair ≡ None)) c.in_default-2.is c.in_ok-part.ensures.none)) in
+    c.in_ok-push.ensures.items ∙ through.pairs_are
+
+pub returns-in_default-2-clause-parts : goal.returns-in_default-2-clause-parts
+returns-in_default-2-clause-parts g c =
+    let before = later_reading_of (g.B.Blocks.disk c.args.blocks.now) in
+    let r = stepping c.args.steps.now before in
+    let marked = marked_by c.mark_all.result (AddsBlocks c.walk.table c.mark_all.new.used (c.in-Some.pair.0 ∷ c.in-Some.pair.1 ∷ []))
+    (sym c.is_err.ensures.value ∙ c.if-is_err.false) c.mark_all.ensures.marked in
+    let through = walked_unread r c.walk.table c.walk.pairs.items c.walk.parts.items c.in-Some.pair c.mark_all.new.used
+    (subst (λ (o : Option Pair). AreWalked r c.walk.table c.walk.pairs.items c.walk.parts.items o) c.in-Some.is c.walk.invariant) marked
+    (ap (option_map (stepped_part c.args.steps.now))
+    (subst (λ (o : Option PairPart). IfNone o (before.part c.in-Some.pair ≡ None)) c.in_default-2.is c.in_ok-part.ensures.none)) in
+    through.parts_are
 
 pub returns-in_default-2-clause-whole : goal.returns-in_default-2-clause-whole
 returns-in_default-2-clause-whole g c =
-    let before = reading_of (g.B.Blocks.disk c.args.blocks.now) in
+    let before = later_reading_of (g.B.Blocks.disk c.args.blocks.now) in
     let r = stepping c.args.steps.now before in
     let marked = marked_by c.mark_all.result (AddsBlocks c.walk.table c.mark_all.new.used (c.in-Some.pair.0 ∷ c.in-Some.pair.1 ∷ []))
     (sym c.is_err.ensures.value ∙ c.if-is_err.false) c.mark_all.ensures.marked in
-    (walked_unread r c.walk.table c.walk.parts.items c.in-Some.pair c.mark_all.new.used
-    (subst (λ (o : Option Pair). AreWalked r c.walk.table c.walk.parts.items o) c.in-Some.is c.walk.invariant) marked
+    let through = walked_unread r c.walk.table c.walk.pairs.items c.walk.parts.items c.in-Some.pair c.mark_all.new.used
+    (subst (λ (o : Option Pair). AreWalked r c.walk.table c.walk.pairs.items c.walk.parts.items o) c.in-Some.is c.walk.invariant) marked
     (ap (option_map (stepped_part c.args.steps.now))
-    (subst (λ (o : Option PairPart). IfNone o (before.part c.in-Some.pair ≡ None)) c.in_default-2.is c.in_ok-part.ensures.none))).whole_is
+    (subst (λ (o : Option PairPart). IfNone o (before.part c.in-Some.pair ≡ None)) c.in_default-2.is c.in_ok-part.ensures.none)) in
+    through.whole_is
 
 pub walk-preserved : goal.walk-preserved
 walk-preserved g c =
-    let before = reading_of (g.B.Blocks.disk c.args.blocks.now) in
+    let before = later_reading_of (g.B.Blocks.disk c.args.blocks.now) in
     let named = c.args.steps.now in
     let r = stepping named before in
     let pair = c.in-Some.pair in
@@ -88,24 +113,30 @@ walk-preserved g c =
     subst (λ (o : Option PairPart). IfSome o (λ p. AllByRecursion IsComplete p.1.entries)) c.in-Some-2.is c.in_ok-part.ensures.complete in
     let marked = marked_by c.mark_all.result (AddsBlocks c.walk.table c.mark_all.new.used (pair.0 ∷ pair.1 ∷ []))
     (sym c.is_err.ensures.value ∙ c.if-is_err.false) c.mark_all.ensures.marked in
-    let more = walked_more r c.walk.table c.walk.parts.items pair c.mark_all.new.used (stepped_part named part.1)
-    (subst (λ (o : Option Pair). AreWalked r c.walk.table c.walk.parts.items o) c.in-Some.is c.walk.invariant) marked
+    let more = walked_more r c.walk.table c.walk.pairs.items c.walk.parts.items pair c.mark_all.new.used (stepped_part named part.1)
+    (subst (λ (o : Option Pair). AreWalked r c.walk.table c.walk.pairs.items c.walk.parts.items o) c.in-Some.is c.walk.invariant) marked
     (ap (option_map (stepped_part named)) found) complete in
     let stepped : c.step.new.part ≡ (pair, stepped_part named part.1) =
     c.step.ensures ∙ ap (λ (p : Pair). (p, stepped_part named part.1)) at in
     let tail : c.next_pair-next.result ≡ next (stepped_part named part.1).tail =
     c.next_pair-next.ensures
     ∙ ap (λ (p : PairPart). next p.1.tail) (c.part.view_is ∙ stepped) in
-    rw (tail, c.in_ok-push.ensures.items, stepped) more
+    rw (tail, c.in_ok-push.ensures.items, c.in_ok-push-2.ensures.items, stepped) more
+
+pub returns-clause-pairs : goal.returns-clause-pairs
+returns-clause-pairs g c =
+    let r = stepping c.args.steps.now (later_reading_of (g.B.Blocks.disk c.args.blocks.now)) in
+    (walked_all r c.walk.table c.walk.pairs.items c.walk.parts.items
+    (subst (λ (o : Option Pair). AreWalked r c.walk.table c.walk.pairs.items c.walk.parts.items o) c.in_default.is c.walk.invariant)).pairs_are
 
 pub returns-clause-parts : goal.returns-clause-parts
 returns-clause-parts g c =
-    let r = stepping c.args.steps.now (reading_of (g.B.Blocks.disk c.args.blocks.now)) in
-    (walked_all r c.walk.table c.walk.parts.items
-    (subst (λ (o : Option Pair). AreWalked r c.walk.table c.walk.parts.items o) c.in_default.is c.walk.invariant)).parts_are
+    let r = stepping c.args.steps.now (later_reading_of (g.B.Blocks.disk c.args.blocks.now)) in
+    (walked_all r c.walk.table c.walk.pairs.items c.walk.parts.items
+    (subst (λ (o : Option Pair). AreWalked r c.walk.table c.walk.pairs.items c.walk.parts.items o) c.in_default.is c.walk.invariant)).parts_are
 
 pub returns-clause-whole : goal.returns-clause-whole
 returns-clause-whole g c =
-    let r = stepping c.args.steps.now (reading_of (g.B.Blocks.disk c.args.blocks.now)) in
-    (walked_all r c.walk.table c.walk.parts.items
-    (subst (λ (o : Option Pair). AreWalked r c.walk.table c.walk.parts.items o) c.in_default.is c.walk.invariant)).whole_is
+    let r = stepping c.args.steps.now (later_reading_of (g.B.Blocks.disk c.args.blocks.now)) in
+    (walked_all r c.walk.table c.walk.pairs.items c.walk.parts.items
+    (subst (λ (o : Option Pair). AreWalked r c.walk.table c.walk.pairs.items c.walk.parts.items o) c.in_default.is c.walk.invariant)).whole_is

@@ -1,0 +1,26 @@
+//! Pairs of an image lowered.
+
+ghost use Rattle.std.specs.Prelude.{◌<◌, ◌≤◌, ℕ, All, OnOk};
+ghost use Rattle.lfs_fs.specs.Front.{pairs_name};
+ghost use Rattle.lfs_settle.specs.Lowered.{ArePairsLowered};
+
+use lfs_block::{Blocks, Image};
+use lfs_lower::lower_pair;
+use std::alloc::{AllocError, Global};
+
+/// Lowers pairs, no two of which have a block in common. If memory is refused, those that come first are lowered. Takes memory.
+pub(crate) fn lower_pairs(
+    alloc: Global,
+    image: &mut Image,
+    pairs: &[(u32, u32)],
+) -> Result<(), AllocError>
+    requires within { (b : ℕ) → 0 < pairs_name b pairs.now → b < image.old.disk.count }
+    requires apart { (b : ℕ) → pairs_name b pairs.now ≤ 1 }
+    ensures { OnOk result (ArePairsLowered image.old.disk image.new.disk pairs.now) }
+{
+    let _fits_the_limits = image.size();
+    for pair in pairs {
+        lower_pair(alloc, image, *pair)?;
+    }
+    Ok(())
+}
