@@ -22,8 +22,6 @@ from support.real import NO_POWER, TIME, Device, Refused, pattern, real_littlefs
 LIVES = 40
 BLOCKS = 256, 512, 512, 1024, 4096
 ROOM = 43
-# What `salvage` ends with, which saves what stands in the image, if a change of the device is unfinished.
-UNFINISHED = 15, 16, 17, 18
 
 
 class Life:
@@ -36,7 +34,7 @@ class Life:
         self.count = self.chance.choice([24, 64, 200] if self.block > 256 else [64, 200])
         unit = self.chance.choice([it for it in (16, 32, 64, 256) if it < self.block])
         self.device = Device(folder, read=unit, prog=unit, lookahead=self.chance.choice([16, 32]), mtime=self.chance.random() < 0.5)
-        self.name, self.paths, self.has_lost_power = "a.img", {"/": None}, False
+        self.name, self.paths = "a.img", {"/": None}
 
     def check(self, what, is_right, found=""):
         """Counts one thing that is to be so."""
@@ -184,14 +182,15 @@ class Life:
         return found
 
     def salvage(self, rows):
-        """Compares what is saved of the device's image with what it holds."""
+        """Compares what is saved of the device's image with what it holds. What no path leads to is saved besides."""
         ended, saved = self.run("salvage", "-b", "auto", self.name, "saved"), self.folder / "saved"
         held = {"/": ("d", 0, "")}
         for path in saved.rglob("*"):
             row = ("d", 0, "") if path.is_dir() else ("f", path.stat().st_size, sha256(path.read_bytes()))
             held[f"/{path.relative_to(saved)}"] = row
         is_whole = ended[0] == 0 and not ended[3] and held == rows
-        self.check("salvaged", is_whole or self.has_lost_power and ended[1] in UNFINISHED, ended)
+        has_more = b"17 Orphan" in ended[3] and rows.items() <= held.items()
+        self.check("salvaged", is_whole or has_more, ended)
         shutil.rmtree(saved, ignore_errors=True)
 
     def noise(self, length):
@@ -317,8 +316,7 @@ class Life:
     def whole(self):
         """The whole life."""
         self.begin()
-        self.has_lost_power = self.chance.random() < 0.5
-        if self.has_lost_power:
+        if self.chance.random() < 0.5:
             self.lose_power()
         self.in_a_dump()
         found = self.repack()

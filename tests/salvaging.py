@@ -105,7 +105,7 @@ DAMAGED = [
     ("superblocks one behind another", tail(HARD, (2, 3)), {2: superblock(512, 8) + tail(HARD, (4, 5)), 4: superblock(512, 8)
      + file(1, b"f", b"one")}, "", False, [], {"f": b"one"}),
     ("an unfinished move", directory(1, b"d", (2, 3)) + file(2, b"to", b"one") + tail(SOFT, (2, 3)) + SHARE, {2: file(0, b"from", b"one")},
-     "18 UnfinishedMove", False, [], {"to": b"one", "d/from": b"one"}),
+     "", False, [], {"to": b"one"}),
     ("an orphan", tail(SOFT, (2, 3)), {2: file(0, b"f", b"one")}, "17 Orphan", False,
      ["blocks 2 and 3: no path leads there: saved as lost+found/2"], {"lost+found/2/f": b"one"}),
     ("a directory past the end", directory(1, b"etc", (900, 901)) + file(2, b"f", b"one"), {}, "14 BlockRange", True,

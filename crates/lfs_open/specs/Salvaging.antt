@@ -1,8 +1,9 @@
 -- What is saved of an image, which needn't mount, in a new folder of the host (own).
-use Rattle.std.specs.Prelude.{◌≡◌, ◌⊎◌, ◌||◌, ℕ, Bool, true, false, List, [], Option, Some, None, length, take}
+use Rattle.std.specs.Prelude.{◌≡◌, ◌⊎◌, ◌||◌, ℕ, nat_lt, Bool, true, false, List, [], Option, Some, None, length, take}
 use Rattle.lfs_block.specs.Disk.{Disk, IsDisk, image_of}
 use Rattle.lfs_block.specs.ImageFault.{IsNoImage}
 use Rattle.lfs_block.specs.declared.mount_fault.MountFault.{MountFault}
+use Rattle.lfs_block.specs.declared.mount_fault.MountFault.TheVariants.{Orphan}
 use Rattle.lfs_command.specs.declared.refusal.Refusal.TheVariants as refusal
 use Rattle.lfs_extract.specs.declared.extract_fault.ExtractFault.TheVariants as extracting
 use Rattle.lfs_fs.specs.Cause.{HasCause, IsOfFormat}
@@ -62,23 +63,30 @@ abbrev pub IsOther : Option Fault → Type 0
 IsOther (Some (Mount fault)) = ⊥
 IsOther _ = Unit {0}
 
--- a survey of its pairs finds an older state of one, or none
-abbrev pub FindsOlder : Disk → Disk → Bool → Type 0
-FindsOlder d e found = (s : Survey) × IsSurvey e s × (has_older true d s.areas.items ≡ found)
+-- a survey of its pairs finds something that no path leads to, or nothing, and an older state of one, or none
+abbrev pub Finds : Disk → Disk → Bool → Bool → Type 0
+Finds d e lost older =
+    (s : Survey) × IsSurvey e s × (nat_lt 1 (length s.areas.items) ≡ lost) × (has_older true d s.areas.items ≡ older)
 
--- a folder is made of it, as of any; and it ends well only if no older state of a pair is found
+-- a path leads to all that is found, and a folder is made of it, as of any; it ends well only if no older state of a pair is found
 abbrev pub EndsWhole : Disk → Disk → Disk → List ℕ → Option HostTree → Option (List Made) → Scene → Option Fault → Type 0
-EndsWhole i d e dir tree old new None = FindsOlder d e false × EndsMaking i (path_text []) dir tree old new None
-EndsWhole i d e dir tree old new (Some DamagedCommit) = FindsOlder d e true × EndsMaking i (path_text []) dir tree old new None
+EndsWhole i d e dir tree old new None = Finds d e false false × EndsMaking i (path_text []) dir tree old new None
+EndsWhole i d e dir tree old new (Some DamagedCommit) = Finds d e false true × EndsMaking i (path_text []) dir tree old new None
 EndsWhole i d e dir tree old new (Some (Mount fault)) = ⊥
 EndsWhole i d e dir tree old new (Some fault) = EndsMaking i (path_text []) dir tree old new (Some fault)
 
 -- ---- bytes
 
--- what is saved of the image i that is read of those: it mounts, and a folder is made of it; or it doesn't, for a cause
+-- something is found that no path leads to, and all that can be read is saved
+abbrev pub EndsLost : Disk → Disk → List ℕ → Option HostTree → Option (List Made) → Scene → Option Fault → Type 0
+EndsLost d e dir tree old new fault = (older : Bool) × Finds d e true older × EndsSaving d e Orphan dir tree old new fault
+
+-- what is saved of the image i that is read of those: it mounts, and a folder is made of it, or something is found that no path leads to;
+-- or it doesn't, for a cause
 abbrev pub EndsImage : Disk → Disk → Disk → List ℕ → Option HostTree → Option (List Made) → Scene → Option Fault → Type 0
 EndsImage i d e dir tree old new fault =
     EndsWhole i d e dir tree old new fault
+    ⊎ EndsLost d e dir tree old new fault
     ⊎ ((cause : MountFault) × IsOfFormat cause × HasCause i cause × EndsSaving d e cause dir tree old new fault)
 
 -- the image of a file's own bytes, as many as are read, and that with each block lowered

@@ -3,7 +3,6 @@
 ghost use Rattle.std.specs.Prelude.{◌≡◌, ◌≤◌, IfErr, IfOk, None, Some, if◌then◌else◌, length, true};
 ghost use Rattle.lfs_block.specs.Disk.{IsDisk, image_of};
 ghost use Rattle.lfs_block.specs.declared.mount_fault.MountFault.{MountFault};
-ghost use Rattle.lfs_fs.specs.Cause.{HasCause, IsOfFormat};
 ghost use Rattle.lfs_fs.specs.Mounted.{IsMountOf};
 ghost use Rattle.lfs_host.specs.HostTree.{IsKind};
 ghost use Rattle.lfs_host.specs.Scene.{KeepsFiles};
@@ -13,7 +12,7 @@ ghost use Rattle.lfs_report.specs.Stop.{stopped_by};
 ghost use Rattle.lfs_request.specs.declared.fault.Fault.TheVariants.{Mount};
 ghost use Rattle.lfs_salvage.specs.Saved.{SavesAll};
 ghost use Rattle.lfs_open.specs.ReadBy.{IsReadFrom};
-ghost use Rattle.lfs_open.specs.Salvaging.{AreOwn, EndsImage, EndsSalvage, EndsSalvaged, EndsSaving, EndsWhole, FindsOlder, misses};
+ghost use Rattle.lfs_open.specs.Salvaging.{AreOwn, EndsImage, EndsSalvage, EndsSalvaged, EndsSaving, Finds, misses};
 
 use crate::extracting::{extract_mounted, fault_of_extracting, must_be_missing};
 use crate::viewing::read_by;
@@ -171,12 +170,12 @@ fn salvage_image<H: Host>(
     match mount(alloc, &reading.image) {
         Ok(mounted) => salvage_mounted(alloc, host, context, reading, &mounted, dir),
         Err(MountFault::Memory) => Err(Stop::from(AllocError)),
-        Err(cause) => salvage_unmounted(alloc, host, context, reading, cause, dir),
+        Err(cause) => save_readable(alloc, host, context, reading, cause, dir),
     }
 }
 
-/// Makes a folder of an image that doesn't mount for this cause.
-fn salvage_unmounted<H: Host>(
+/// Makes a folder of all that can be read of an image, which is told to have this fault.
+fn save_readable<H: Host>(
     alloc: Global,
     host: &mut H,
     context: &mut Context,
@@ -184,9 +183,7 @@ fn salvage_unmounted<H: Host>(
     cause: MountFault,
     dir: &str,
 ) -> Result<(), Stop>
-    requires format { IsOfFormat cause }
-    requires cause { HasCause reading.now.image.disk cause }
-    ensures made { EndsImage reading.now.image.disk reading.now.disk.disk reading.now.parts.disk dir.now
+    ensures made { EndsSaving reading.now.disk.disk reading.now.parts.disk cause dir.now
         (H.known host.old).tree (H.known host.old).made (H.known host.new) (stopped_by result) }
     ensures kept { KeepsFiles (H.known host.old) (H.known host.new) }
 {
@@ -194,7 +191,8 @@ fn salvage_unmounted<H: Host>(
     ended(alloc, context, cause, reading, saved)
 }
 
-/// Makes a folder of an image that mounts so. If an older state of a pair is found, it ends with `DamagedCommit`.
+/// Makes a folder of an image that mounts so. If something is found that no path leads to, all that can be read is saved; else, if an older
+/// state of a pair is found, it ends with `DamagedCommit`.
 fn salvage_mounted<H: Host>(
     alloc: Global,
     host: &mut H,
@@ -204,11 +202,14 @@ fn salvage_mounted<H: Host>(
     dir: &str,
 ) -> Result<(), Stop>
     requires mounted { IsMountOf reading.now.image.disk mounted.now }
-    ensures made { EndsWhole reading.now.image.disk reading.now.disk.disk reading.now.parts.disk dir.now
+    ensures made { EndsImage reading.now.image.disk reading.now.disk.disk reading.now.parts.disk dir.now
         (H.known host.old).tree (H.known host.old).made (H.known host.new) (stopped_by result) }
     ensures kept { KeepsFiles (H.known host.old) (H.known host.new) }
 {
-    let (is_older, lines) = find_older(alloc, &reading.disk, &reading.parts)?;
+    let (has_lost, is_older, lines) = find(alloc, &reading.disk, &reading.parts)?;
+    if has_lost {
+        return save_readable(alloc, host, context, reading, MountFault::Orphan, dir);
+    }
     extract_mounted(alloc, host, &reading.image, mounted, b"/", &mut None, dir)?;
     if is_older {
         context.lines = lines;
@@ -217,14 +218,15 @@ fn salvage_mounted<H: Host>(
     Ok(())
 }
 
-/// Whether an older state of a pair is found, with what is told of each.
-fn find_older(alloc: Global, disk: &Image, parts: &Image) -> Result<(bool, Vec<String>), AllocError>
-    ensures { IfOk result (λ found. FindsOlder disk.now.disk parts.now.disk found.0) }
+/// Whether something is found that no path leads to, and whether an older state of a pair is, with what is told of each.
+fn find(alloc: Global, disk: &Image, parts: &Image) -> Result<(bool, bool, Vec<String>), AllocError>
+    ensures { IfOk result (λ found. Finds disk.now.disk parts.now.disk found.0 found.1) }
 {
     let survey = survey_all(alloc, parts)?;
     let places = older_places(alloc, true, disk, &survey)?;
     let lines = older_lines(alloc, &survey, &places)?;
-    Ok((has_older(true, disk, &survey.areas), lines))
+    let has_lost = survey.areas.len() > 1;
+    Ok((has_lost, has_older(true, disk, &survey.areas), lines))
 }
 
 /// Saves all that can still be read of an image, of files in `disk` and of pairs in `parts`, unless something is there under the folder's
