@@ -32,6 +32,7 @@ pub use lowering_all::lower_all;
 pub use own::own_bytes;
 pub use putting::{all_can, put_parts};
 pub use seen_commit::closes;
+pub use superblocks::part_at;
 pub use told::Superblock;
 pub use version::{StatedVersion, later_version, unread_version};
 pub use words::superblock_words;

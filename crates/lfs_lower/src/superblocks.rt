@@ -51,7 +51,7 @@ fn lead(part: &Part) -> Option<(u32, u32)>
 }
 
 /// What a pair holds, or `None` where it is not read.
-pub(crate) fn part_at<B: Blocks>(
+pub fn part_at<B: Blocks>(
     alloc: Global,
     blocks: &B,
     pair: (u32, u32),

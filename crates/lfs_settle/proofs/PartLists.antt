@@ -1,5 +1,5 @@
 -- Lists of parts of which some are left out.
-use Rattle.std.proofs.Common.{◌≡◌, ◌⊎◌, inl, inr, ℕ, ◌+◌, ◌≤◌, Bool, true, false, List, [], ◌∷◌, map, Some, None, refl, ap, sym, ◌∙◌, subst, arith}
+use Rattle.std.proofs.Common.{◌≡◌, ◌⊎◌, inl, inr, ℕ, ◌+◌, ◌≤◌, Bool, true, false, List, [], ◌∷◌, ◌++◌, length, map, Some, None, refl, ap, sym, ◌∙◌, subst, arith, append_assoc, append-nil}
 use Rattle.std.specs.Prelude.{All, Contains, ◌&&◌, ◌||◌, cond, find, not}
 use Rattle.std.specs.List.{filter, list_all}
 use Rattle.std.proofs.lemmas.Bool.{and_parts, both_ways}
@@ -104,3 +104,22 @@ all_can_hold held can (p ∷ ps) =
     split_all held can (not (held p)) p (filter (λ (x : PairPart). not (held x)) ps)
     ∙ all_hold_by (held p) (can p) (list_all can (filter (λ (x : PairPart). not (held x)) ps))
     ∙ ap (λ (b : Bool). (held p || can p) && b) (all_can_hold held can ps)
+
+-- ---- parts that are put after others unless they pass a test
+
+pushed_by : (t : Bool) (p : PairPart) (before rest : List PairPart) → before ++ cond t (p ∷ rest) rest ≡ (before ++ cond t (p ∷ []) []) ++ rest
+pushed_by true p before rest = sym (append_assoc before (p ∷ []) rest)
+pushed_by false p before rest = ap (λ (xs : List PairPart). xs ++ rest) (sym (append-nil before))
+
+pub pushed_more : (test : PairPart → Bool) (held : Bool) (all before now : List PairPart) (p : PairPart) (rest : List PairPart) → held ≡ test p
+    → now ≡ before ++ cond (not held) (p ∷ []) [] → all ≡ before ++ filter (λ x. not (test x)) (p ∷ rest)
+    → all ≡ now ++ filter (λ x. not (test x)) rest
+pushed_more test held all before now p rest is pushed left =
+    left
+    ∙ pushed_by (not (test p)) p before (filter (λ (x : PairPart). not (test x)) rest)
+    ∙ ap (λ (b : Bool). (before ++ cond (not b) (p ∷ []) []) ++ filter (λ (x : PairPart). not (test x)) rest) (sym is)
+    ∙ ap (λ (xs : List PairPart). xs ++ filter (λ (x : PairPart). not (test x)) rest) (sym pushed)
+
+pub pushed_all : (test : PairPart → Bool) (all now rest : List PairPart) → length rest ≡ 0 → all ≡ now ++ filter (λ x. not (test x)) rest → now ≡ all
+pushed_all test all now [] none left = sym (append-nil now) ∙ sym left
+pushed_all test all now (x ∷ rest) none left = absurd (omega (arith, none))

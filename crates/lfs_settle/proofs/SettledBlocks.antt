@@ -47,7 +47,7 @@ use Rattle.lfs_settle.proofs.WholeThread.{settled_first, whole_linked, settled_o
 
 -- ---- a part that is held already
 
-tail_is : (s t : Tail) → same_tail s t ≡ true → s ≡ t
+pub tail_is : (s t : Tail) → same_tail s t ≡ true → s ≡ t
 tail_is End End is = refl
 tail_is (Soft a b) (Soft c d) is = let same : (a, b) ≡ (c, d) = same_pair-is (a, b) (c, d) is in ap (λ (p : Pair). Soft p.0 p.1) same
 tail_is (Hard a b) (Hard c d) is = let same : (a, b) ≡ (c, d) = same_pair-is (a, b) (c, d) is in ap (λ (p : Pair). Hard p.0 p.1) same
@@ -66,7 +66,7 @@ entries_stepped named (Some u) t s is read =
     let one : u ≡ s = cc in
     ap (λ (x : StoredPart). x.entries) (sym same) ∙ ap (λ (x : StoredPart). x.entries) one
 
-part_is : (q s : StoredPart) → q.entries ≡ s.entries → q.tail ≡ s.tail → q.delta ≡ s.delta → q ≡ s
+pub part_is : (q s : StoredPart) → q.entries ≡ s.entries → q.tail ≡ s.tail → q.delta ≡ s.delta → q ≡ s
 part_is q s entries tail delta =
     ap (λ (es : List StoredEntry). record { entries = es; tail = q.tail; delta = q.delta }) entries
     ∙ ap (λ (t : Tail). record { entries = s.entries; tail = t; delta = q.delta }) tail

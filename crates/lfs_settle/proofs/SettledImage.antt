@@ -17,7 +17,7 @@ use Rattle.lfs_settle.proofs.ThreadPairs.{thread_is_ended, thread_is_front}
 
 -- ---- only parts differ
 
-reads_by : (d : Disk) (t : Bool) (r : Reading) (ps : List PairPart) → ReadsBlocks d r → ReadsBlocks d (if t then with_parts r ps else r)
+pub reads_by : (d : Disk) (t : Bool) (r : Reading) (ps : List PairPart) → ReadsBlocks d r → ReadsBlocks d (if t then with_parts r ps else r)
 reads_by d true r ps reads = record { size = reads.size; count = reads.count; chain = reads.chain; content = reads.content }
 reads_by d false r ps reads = reads
 

@@ -21,7 +21,7 @@ use Rattle.lfs_settle.proofs.MovedEntry.{none_moved}
 
 -- ---- the state
 
-shares_none : (ps : List PairPart) → delta_from (map without_share ps) ≡ 0
+pub shares_none : (ps : List PairPart) → delta_from (map without_share ps) ≡ 0
 shares_none [] = refl
 shares_none (p ∷ ps) = ap (λ (n : ℕ). bit_xor 0 n) (shares_none ps)
 

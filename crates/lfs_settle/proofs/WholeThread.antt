@@ -111,7 +111,7 @@ named_by r b p ps (Some s) read rest =
     )
 
 -- the parts of pairs name no more blocks than the pairs
-held_named : (r : Reading) (b : ℕ) (ps : List Pair) → pairs_name b (pairs_in (parts_held r ps)) ≤ pairs_name b ps
+pub held_named : (r : Reading) (b : ℕ) (ps : List Pair) → pairs_name b (pairs_in (parts_held r ps)) ≤ pairs_name b ps
 held_named r b [] = omega arith
 held_named r b (p ∷ ps) = named_by r b p ps (r.part p) refl (held_named r b ps)
 

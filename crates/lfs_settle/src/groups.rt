@@ -10,7 +10,7 @@ use std::alloc::{AllocError, Global};
 use std::mem::replace;
 
 /// Whether the thread goes on in the same directory.
-fn is_hard(tail: Tail) -> bool
+pub fn is_hard(tail: Tail) -> bool
     ensures { result ≡ is_hard tail }
 {
     matches!(tail, Tail::Hard(..))

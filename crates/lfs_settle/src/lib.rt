@@ -19,9 +19,13 @@ mod threading;
 mod within;
 
 pub use by_device::read_by_device;
+pub use groups::is_hard;
 pub use laws::{
     moved_entries_go, reached_directories_are_closed, relaid_images_hold_what_is_read,
     settled_images_hold_what_is_read, settled_parts_are_a_thread, settled_stays,
 };
+pub use moved::have_no_state;
+pub use planning::{is_kept, push_unless};
 pub use settling::settle;
+pub use threading::{clear_all, end_with};
 pub use within::{read_as, read_within};

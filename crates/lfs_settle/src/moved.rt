@@ -28,6 +28,13 @@ pub(crate) fn state_of(parts: &[Part]) -> State
     State::of(&sum_of(parts).to_bytes())
 }
 
+/// Whether parts leave no state: they have no shares, or these cancel each other.
+pub fn have_no_state(parts: &[Part]) -> bool
+    ensures { result ≡ (delta_from parts.now == 0) }
+{
+    state_of(parts).is_none()
+}
+
 // ---- the entry
 
 fn has_block(pair: (u32, u32), block: u32) -> bool

@@ -43,7 +43,7 @@ fn same_tail(one: Tail, other: Tail) -> bool
 }
 
 /// Whether a settled part is as it was: it has as many entries, the same tail and the same share.
-fn is_kept(part: &Part, old: &Part) -> bool
+pub fn is_kept(part: &Part, old: &Part) -> bool
     ensures { result ≡ is_kept part.now.1 old.now.1 }
 {
     part.entries.len() == old.entries.len()
@@ -64,7 +64,7 @@ fn is_held<B: Blocks>(alloc: Global, blocks: &B, part: &Part) -> Result<bool, Al
 }
 
 /// Puts a part after others, unless it is held already. Takes memory.
-fn push_unless(changed: &mut Vec<Part>, part: Part, held: bool) -> Result<(), AllocError>
+pub fn push_unless(changed: &mut Vec<Part>, part: Part, held: bool) -> Result<(), AllocError>
     ensures { OnOk result (changed.new.items ≡ changed.old.items ++ cond (not held) (part ∷ []) []) }
 {
     if !held {

@@ -10,7 +10,7 @@ use lfs_meta::{Part, Tail};
 use std::alloc::{AllocError, Global};
 
 /// Gives the last of parts a tail.
-fn end_with(parts: &mut Vec<Part>, tail: Tail)
+pub fn end_with(parts: &mut Vec<Part>, tail: Tail)
     ensures { parts.new.items ≡ ending tail parts.old.items }
 {
     if let Some(last) = parts.last_mut() {
@@ -71,7 +71,7 @@ fn clear_part(part: &mut Part)
 }
 
 /// Takes the shares off parts.
-fn clear_all(parts: &mut Vec<Part>)
+pub fn clear_all(parts: &mut Vec<Part>)
     ensures { parts.new.items ≡ map without_share parts.old.items }
 {
     for part in parts.iter_mut() {

@@ -1,30 +1,14 @@
 -- One part more.
-use Rattle.std.proofs.Common.{◌≡◌, ◌<◌, ℕ, Bool, true, false, List, [], ◌∷◌, ◌++◌, length, ap, sym, ◌∙◌, subst, arith, append_assoc, append-nil}
-use Rattle.std.specs.Prelude.{All, cond, not}
+use Rattle.std.proofs.Common.{◌≡◌, ◌<◌, ℕ, List, ◌++◌, length, ap, subst, arith}
+use Rattle.std.specs.Prelude.{All, not}
 use Rattle.std.specs.List.{filter}
 use Rattle.std.specs.Vec.Iter.{into_iter_items}
 use Rattle.std.proofs.lemmas.List.Elements.{All-head, All-tail}
 use Rattle.lfs_fs.specs.Gathering.{PairPart}
 use Rattle.lfs_lower.specs.LaterReading.{later_reading_of}
 use Rattle.lfs_settle.specs.Settled.{is_held}
+use Rattle.lfs_settle.proofs.PartLists.{pushed_all, pushed_more}
 use Rattle.lfs_settle.proofs.planning.changed.Goals as goal
-
-pushed_by : (t : Bool) (p : PairPart) (before rest : List PairPart) → before ++ cond t (p ∷ rest) rest ≡ (before ++ cond t (p ∷ []) []) ++ rest
-pushed_by true p before rest = sym (append_assoc before (p ∷ []) rest)
-pushed_by false p before rest = ap (λ (xs : List PairPart). xs ++ rest) (sym (append-nil before))
-
-pushed_more : (test : PairPart → Bool) (held : Bool) (all before now : List PairPart) (p : PairPart) (rest : List PairPart) → held ≡ test p
-    → now ≡ before ++ cond (not held) (p ∷ []) [] → all ≡ before ++ filter (λ x. not (test x)) (p ∷ rest)
-    → all ≡ now ++ filter (λ x. not (test x)) rest
-pushed_more test held all before now p rest is pushed left =
-    left
-    ∙ pushed_by (not (test p)) p before (filter (λ (x : PairPart). not (test x)) rest)
-    ∙ ap (λ (b : Bool). (before ++ cond (not b) (p ∷ []) []) ++ filter (λ (x : PairPart). not (test x)) rest) (sym is)
-    ∙ ap (λ (xs : List PairPart). xs ++ filter (λ (x : PairPart). not (test x)) rest) (sym pushed)
-
-pushed_all : (test : PairPart → Bool) (all now rest : List PairPart) → length rest ≡ 0 → all ≡ now ++ filter (λ x. not (test x)) rest → now ≡ all
-pushed_all test all now [] none left = sym (append-nil now) ∙ sym left
-pushed_all test all now (x ∷ rest) none left = absurd (omega (arith, none))
 
 pub is_held-requires-clause-first : goal.is_held-requires-clause-first
 is_held-requires-clause-first g c =
