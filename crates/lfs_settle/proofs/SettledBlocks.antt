@@ -17,7 +17,7 @@ use Rattle.lfs_meta.specs.Laws.{PartsDependOnTheirBlocks}
 use Rattle.lfs_meta.specs.LiveBlock.{stored_part_of}
 use Rattle.lfs_meta.specs.Part.{StoredPart}
 use Rattle.lfs_fs.specs.Pair.{root, same_pair}
-use Rattle.lfs_fs.specs.Front.{Follow, after, next_pair, pair_names, pairs_name, tail_of}
+use Rattle.lfs_fs.specs.Front.{Follow, IsThread, after, next_pair, pair_names, pairs_name, tail_of}
 use Rattle.lfs_fs.specs.Gathering.{PairPart, delta_from}
 use Rattle.lfs_fs.specs.Reading.{Reading}
 use Rattle.lfs_fs.proofs.ContainsLemmas.{contains_cases, contains_first, contains_later, contains_mapped, contains_none}
@@ -145,11 +145,12 @@ module _ (r : Reading) (qs : List PairPart) (once : (b : ℕ) → pairs_name b (
         ap (λ (o : Option Pair). after (next_pair (with_parts r qs)) o (pairs_in ps)) step ∙ rest.1,
       )
 
-  pub thread_is : ((b : ℕ) → 0 < pairs_name b (pairs_in qs) → b < r.count) → AreLinked qs → first_pair qs ≡ Some root
-      → pairs_in qs ≡ thread_pairs (with_parts r qs)
-  thread_is within linked first =
+  -- their pairs are the thread
+  pub parts_thread : ((b : ℕ) → 0 < pairs_name b (pairs_in qs) → b < r.count) → AreLinked qs → first_pair qs ≡ Some root
+      → IsThread (with_parts r qs) (pairs_in qs)
+  parts_thread within linked first =
       let both = follow_parts qs (λ q there. there) linked in
-      thread_found (with_parts r qs) (pairs_in qs) (record {
+      record {
         front = record {
           follow = subst (λ (o : Option Pair). Follow (next_pair (with_parts r qs)) o (pairs_in qs)) first both.0;
           within = within;
@@ -158,7 +159,11 @@ module _ (r : Reading) (qs : List PairPart) (once : (b : ℕ) → pairs_name b (
         parts = All-map (λ (p : Pair). IsSome ((with_parts r qs).part p)) (λ (q : PairPart). q.0) qs
             (all_are (λ (q : PairPart). IsSome ((with_parts r qs).part q.0)) qs (λ q there. subst IsSome (sym (has_part q there)) refl));
         ends = ap (λ (o : Option Pair). after (next_pair (with_parts r qs)) o (pairs_in qs)) (sym first) ∙ both.1;
-      })
+      }
+
+  pub thread_is : ((b : ℕ) → 0 < pairs_name b (pairs_in qs) → b < r.count) → AreLinked qs → first_pair qs ≡ Some root
+      → pairs_in qs ≡ thread_pairs (with_parts r qs)
+  thread_is within linked first = thread_found (with_parts r qs) (pairs_in qs) (parts_thread within linked first)
 
 -- ---- the parts that are to be put
 

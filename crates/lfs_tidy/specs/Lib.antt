@@ -1,0 +1,4 @@
+pub mod Laws
+pub mod Planned
+pub mod Tidied
+pub mod Tidying

@@ -1,0 +1,45 @@
+//! Laws of tidied images: each function does nothing but call laws, and its contract is the law.
+
+ghost use Rattle.lfs_tidy.specs.Laws.{NoneIsToBePut, TidiedAreLinked, TidiedHaveEntries, TidiedHaveNoShares, TidiedImagesHaveTheParts, TidiedImagesHoldWhatIsTidied, TidiedImagesKeepTheTree, TidiedKeepTheTree, TidiedNameNoMore, TidiedStay};
+
+use lfs_file::chains_stay_on_their_blocks;
+use lfs_fs::{both_sides_hold, same_readings_hold_the_same, stored_links_stay};
+
+/// A law: no tidied part to which a hard tail leads is empty, and none has a share of the state. Tidied parts are one thread, of pairs
+/// that were there.
+pub fn tidied_parts_have_entries()
+    ensures entries { TidiedHaveEntries }
+    ensures shares { TidiedHaveNoShares }
+    ensures linked { TidiedAreLinked }
+    ensures named { TidiedNameNoMore }
+{}
+
+/// A law: parts that are tidied stay, and none of them is to be put.
+pub fn tidied_stay()
+    ensures stay { TidiedStay }
+    ensures none { NoneIsToBePut }
+{}
+
+/// A law: a tidied image holds the sound volumes that are read in the other one once it is tidied, and no other. If it can be tidied, the
+/// parts along its thread are the tidied ones.
+pub fn tidied_images_hold_what_is_tidied()
+    ensures hold { TidiedImagesHoldWhatIsTidied }
+    ensures parts { TidiedImagesHaveTheParts }
+{
+    chains_stay_on_their_blocks();
+    stored_links_stay();
+    both_sides_hold();
+    same_readings_hold_the_same();
+}
+
+/// A law: what holds a sound volume holds one with the same tree once it is tidied, of as many blocks of the same size, with the same
+/// limits and attributes of the root. And so does a tidied image.
+pub fn tidied_keep_the_tree()
+    ensures readings { TidiedKeepTheTree }
+    ensures images { TidiedImagesKeepTheTree }
+{
+    chains_stay_on_their_blocks();
+    stored_links_stay();
+    both_sides_hold();
+    same_readings_hold_the_same();
+}
