@@ -1,18 +1,16 @@
 -- What stays of parts of which those leave that are empty after a hard tail.
-use Rattle.std.proofs.Common.{◌≡◌, inl, inr, ℕ, suc, ◌-◌, ◌≤◌, ◌==◌, Bool, true, false, List, [], ◌∷◌, ◌++◌, length, map, Option, Some, None, refl, ap, sym, ◌∙◌, subst, arith}
+use Rattle.std.proofs.Common.{◌≡◌, inl, inr, ℕ, suc, ◌-◌, ◌≤◌, ◌==◌, Bool, true, false, List, [], ◌∷◌, ◌++◌, length, map, Some, None, refl, ap, sym, ◌∙◌, subst, arith}
 use Rattle.std.specs.Prelude.{◌&&◌, Contains, if◌then◌else◌, replicate, slice_get, sum_by}
-use Rattle.std.specs.List.{AllByRecursion}
 use Rattle.std.proofs.lemmas.Bool.Decides.{nat_tests}
 use Rattle.std.proofs.lemmas.List.Sums.{sum_by-cons}
 use Rattle.std.proofs.lemmas.Option.{same_Some}
 use Rattle.lfs_meta.specs.declared.tail.Tail.{Tail}
 use Rattle.lfs_meta.specs.Body.{Pair}
 use Rattle.lfs_meta.specs.Entry.{StoredEntry}
-use Rattle.lfs_fs.specs.Front.{pair_names, pairs_name}
+use Rattle.lfs_fs.specs.Front.{pair_names}
 use Rattle.lfs_fs.specs.Gathering.{PairPart}
 use Rattle.lfs_fs.specs.Thread.{is_hard}
 use Rattle.lfs_fs.proofs.ContainsLemmas.{contains_cases, contains_first, contains_later, contains_none}
-use Rattle.lfs_lower.proofs.PartsPut.{pairs_in}
 use Rattle.lfs_settle.specs.Laws.{AreLinked, first_pair}
 use Rattle.lfs_settle.specs.Settled.{ending, without_share}
 use Rattle.lfs_settle.proofs.PartLists.{contains_of}

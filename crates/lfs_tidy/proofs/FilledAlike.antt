@@ -2,7 +2,7 @@
 use Rattle.std.proofs.Common.{◌≡◌, Bool, true, false, List, [], ◌∷◌, ◌++◌, map, refl, ap, sym, ◌∙◌, subst}
 use Rattle.std.specs.Prelude.{◌&&◌, flat_map}
 use Rattle.std.proofs.lemmas.Bool.{and_parts}
-use Rattle.lfs_fs.specs.Directory.{Directory, Part, entries, parts}
+use Rattle.lfs_fs.specs.Directory.{Directory, Part, entries}
 use Rattle.lfs_fs.specs.Entry.{Entry}
 use Rattle.lfs_fs.specs.Gathering.{PairPart, link_from}
 use Rattle.lfs_fs.specs.Held.{resolved}
@@ -11,7 +11,7 @@ use Rattle.lfs_fs.specs.Thread.{is_hard, pieces}
 use Rattle.lfs_fs.proofs.FoldersLemmas.{cut_here}
 use Rattle.lfs_settle.specs.Settled.{without_share}
 use Rattle.lfs_tidy.specs.Tidied.{is_empty, tidied_parts, with_tail_of, without_emptied}
-use Rattle.lfs_tidy.proofs.AlikeVolumes.{AreAlike, IsAlike}
+use Rattle.lfs_tidy.proofs.AlikeVolumes.{AreAlike}
 use Rattle.lfs_tidy.proofs.Filled.{filled_by, none_of_empty}
 
 -- ---- parts that are put before directories

@@ -1,8 +1,7 @@
 -- A tidied image holds what is read in the other one once it is tidied.
-use Rattle.std.proofs.Common.{◌≡◌, ℕ, true, List, [], ◌∷◌, Some, None, refl, ap, sym, ◌∙◌, subst}
+use Rattle.std.proofs.Common.{◌≡◌, ℕ, true, List, [], ◌∷◌, Some, refl, ap, sym, ◌∙◌}
 use Rattle.std.specs.Prelude.{Contains}
 use Rattle.lfs_block.specs.Disk.{Disk}
-use Rattle.lfs_meta.specs.Body.{Pair}
 use Rattle.lfs_fs.specs.Pair.{root}
 use Rattle.lfs_fs.specs.Front.{next_pair, tail_of}
 use Rattle.lfs_fs.specs.Gathering.{PairPart}

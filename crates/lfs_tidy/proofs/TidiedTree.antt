@@ -1,9 +1,7 @@
 -- What holds a sound volume holds one with the same tree once it is tidied.
-use Rattle.std.proofs.Common.{◌≡◌, ◌≢◌, ℕ, ◌≤◌, Bool, true, false, List, [], ◌∷◌, map, Option, Some, None, refl, ap, sym, ◌∙◌, subst, arith}
-use Rattle.std.specs.Prelude.{All, Contains, if◌then◌else◌, replicate, sum_by}
+use Rattle.std.proofs.Common.{◌≡◌, ◌≢◌, ℕ, ◌≤◌, Bool, true, false, List, [], ◌∷◌, map, Option, Some, refl, ap, sym, ◌∙◌, subst, arith}
+use Rattle.std.specs.Prelude.{All, Contains, replicate, sum_by}
 use Rattle.std.proofs.lemmas.Option.{same_Some}
-use Rattle.lfs_block.specs.Disk.{Disk}
-use Rattle.lfs_meta.specs.Attribute.{Attributes}
 use Rattle.lfs_meta.specs.Body.{Pair}
 use Rattle.lfs_meta.specs.Part.{StoredPart}
 use Rattle.lfs_fs.specs.Directory.{Directory, thread}
@@ -18,7 +16,6 @@ use Rattle.lfs_fs.specs.Superblock.{HasSuperblock, Header, header_of}
 use Rattle.lfs_fs.specs.Thread.{Link, pieces}
 use Rattle.lfs_fs.specs.Uses.{uses}
 use Rattle.lfs_fs.specs.Volume.{Volume}
-use Rattle.lfs_fs.specs.declared.limits.Limits.{Limits}
 use Rattle.lfs_fs.proofs.ContainsLemmas.{contains_first, contains_later}
 use Rattle.lfs_fs.proofs.CountLemmas.{part_uses, uses_at}
 use Rattle.lfs_fs.proofs.GatheredLemmas.{state_is}
@@ -26,13 +23,13 @@ use Rattle.lfs_lower.specs.Joining.{parts_held}
 use Rattle.lfs_lower.proofs.HeldAnew.{LawsBelow}
 use Rattle.lfs_lower.proofs.PartsPut.{pairs_in}
 use Rattle.lfs_settle.specs.InStep.{thread_pairs, thread_parts}
-use Rattle.lfs_settle.specs.Settled.{with_parts, without_share}
+use Rattle.lfs_settle.specs.Settled.{with_parts}
 use Rattle.lfs_settle.proofs.PartLists.{contains_of}
 use Rattle.lfs_settle.proofs.SettledBlocks.{has_part}
 use Rattle.lfs_settle.proofs.SettledThread.{shares_none}
 use Rattle.lfs_settle.proofs.ThreadPairs.{thread_found}
 use Rattle.lfs_settle.proofs.ThreadParts.{held_is, held_pair, links_are}
-use Rattle.lfs_tidy.specs.Laws.{HasTheTreeOf, HoldsTheTreeOf, TidiedImagesKeepTheTree, TidiedKeepTheTree}
+use Rattle.lfs_tidy.specs.Laws.{HoldsTheTreeOf, TidiedImagesKeepTheTree, TidiedKeepTheTree}
 use Rattle.lfs_tidy.specs.Tidied.{can_tidy, tidied, tidied_parts, without_emptied}
 use Rattle.lfs_tidy.proofs.AlikeVolumes.{AreAlike, LooksLike, same_tree, sound_alike}
 use Rattle.lfs_tidy.proofs.Filled.{first_stays, sum_mapped, sum_tidied, tidied_of}

@@ -1,5 +1,5 @@
 -- If the thread and the parts pass, those that change are planned, and else none.
-use Rattle.std.proofs.Common.{◌≡◌, false, true, ap, sym, ◌∙◌}
+use Rattle.std.proofs.Common.{sym, ◌∙◌}
 use Rattle.lfs_block.specs.Disk.{Disk}
 use Rattle.lfs_tidy.proofs.TidiedBlocks.{ArePlannedOf, changed_planned, first_of_parts, fit_is, none_planned, second_of_parts, unfit_thread}
 use Rattle.lfs_tidy.proofs.planning.parts_to_put.Goals as goal
