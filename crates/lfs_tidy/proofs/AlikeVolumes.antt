@@ -1,5 +1,6 @@
 -- A volume whose directories have, one by one, the first pairs and the entries of those of a sound volume.
-use Rattle.std.proofs.Common.{◌≡◌, ℕ, ◌+◌, ◌≤◌, ◌<◌, Bool, true, false, cond, List, [], ◌∷◌, Option, Some, None, refl, ap, sym, ◌∙◌, subst, arith}
+use Rattle.std.proofs.Common.{◌≡◌, ℕ, ◌+◌, ◌≤◌, ◌<◌, Bool, true, false, cond, List, [], ◌∷◌, Option, Some, None, refl, ap, sym, ◌∙◌}
+use Rattle.std.proofs.Common.{subst, arith}
 use Rattle.std.specs.Prelude.{All, find, if◌then◌else◌, sum_by}
 use Rattle.std.specs.List.{AllZip}
 use Rattle.std.specs.Option.{option_and_then, option_map}
@@ -59,8 +60,8 @@ led_alike : (edge other : Pair → Name → Option Entry) → ((k : Pair) (n : N
 led_alike edge other same n None = refl
 led_alike edge other same n (Some k) = same k n
 
-walk_alike : (edge other : Pair → Name → Option Entry) → ((k : Pair) (n : Name) → other k n ≡ edge k n) → (here : Option Entry) (path : Path)
-    → walk target other here path ≡ walk target edge here path
+walk_alike : (edge other : Pair → Name → Option Entry) → ((k : Pair) (n : Name) → other k n ≡ edge k n)
+    → (here : Option Entry) (path : Path) → walk target other here path ≡ walk target edge here path
 walk_alike edge other same here [] = refl
 walk_alike edge other same None (n ∷ path) = walk_alike edge other same None path
 walk_alike edge other same (Some e) (n ∷ path) =
@@ -103,7 +104,8 @@ starts_alike (d ∷ ds) [] alike starts = absurd alike
 starts_alike (d ∷ ds) (e ∷ es) alike starts = alike.0.first ∙ starts
 
 -- what holds of the entries of each directory
-entries_alike : (P : List Entry → Type 0) (ds es : List Directory) → AreAlike ds es → All (λ d. P (entries d)) ds → All (λ d. P (entries d)) es
+entries_alike : (P : List Entry → Type 0) (ds es : List Directory) → AreAlike ds es → All (λ d. P (entries d)) ds
+    → All (λ d. P (entries d)) es
 entries_alike P [] [] alike all = All-nil (λ (d : Directory). P (entries d))
 entries_alike P [] (e ∷ es) alike all = absurd alike
 entries_alike P (d ∷ ds) [] alike all = absurd alike

@@ -1,5 +1,6 @@
 -- What stays of parts of which those leave that are empty after a hard tail.
-use Rattle.std.proofs.Common.{◌≡◌, inl, inr, ℕ, suc, ◌-◌, ◌≤◌, ◌==◌, Bool, true, false, List, [], ◌∷◌, ◌++◌, length, map, Some, None, refl, ap, sym, ◌∙◌, subst, arith}
+use Rattle.std.proofs.Common.{◌≡◌, inl, inr, ℕ, suc, ◌-◌, ◌≤◌, ◌==◌, Bool, true, false, List, [], ◌∷◌, ◌++◌, length, map, Some, None}
+use Rattle.std.proofs.Common.{refl, ap, sym, ◌∙◌, subst, arith}
 use Rattle.std.specs.Prelude.{◌&&◌, Contains, if◌then◌else◌, replicate, slice_get, sum_by}
 use Rattle.std.proofs.lemmas.Bool.Decides.{nat_tests}
 use Rattle.std.proofs.lemmas.List.Sums.{sum_by-cons}
@@ -15,7 +16,8 @@ use Rattle.lfs_settle.specs.Laws.{AreLinked, first_pair}
 use Rattle.lfs_settle.specs.Settled.{ending, without_share}
 use Rattle.lfs_settle.proofs.PartLists.{contains_of}
 use Rattle.lfs_settle.proofs.SettledThread.{linked_same}
-use Rattle.lfs_tidy.specs.Laws.{HaveEntries, HaveNoShares, TidiedAreLinked, TidiedHaveEntries, TidiedHaveNoShares, TidiedNameNoMore, TidiedStay}
+use Rattle.lfs_tidy.specs.Laws.{HaveEntries, HaveNoShares, TidiedAreLinked, TidiedHaveEntries, TidiedHaveNoShares, TidiedNameNoMore}
+use Rattle.lfs_tidy.specs.Laws.{TidiedStay}
 use Rattle.lfs_tidy.specs.Tidied.{is_empty, tidied_parts, with_tail_of, without_emptied}
 use Rattle.lfs_tidy.specs.Tidying.{ends_hard, put_next}
 

@@ -1,5 +1,6 @@
 -- An image whose pairs hold the tidied parts is tidied.
-use Rattle.std.proofs.Common.{◌≡◌, ◌≢◌, ℕ, ◌≤◌, ◌<◌, ◌==◌, Bool, true, false, List, [], ◌∷◌, length, Option, Some, None, refl, ap, sym, ◌∙◌, subst, arith}
+use Rattle.std.proofs.Common.{◌≡◌, ◌≢◌, ℕ, ◌≤◌, ◌<◌, ◌==◌, Bool, true, false, List, [], ◌∷◌, length, Option, Some, None, refl, ap, sym}
+use Rattle.std.proofs.Common.{◌∙◌, subst, arith}
 use Rattle.std.specs.Prelude.{All, Contains, ◌&&◌, bytes_eq, cond, if◌then◌else◌, not}
 use Rattle.std.specs.List.{AllByRecursion, filter, list_all}
 use Rattle.std.specs.Option.{option_map_or}
@@ -88,7 +89,8 @@ left_apart r q there =
     grind (arith, nat_tests)
 
 -- the pairs of parts that are to be looked at are of the disk
-module _ (d : Disk) (along parts : List PairPart) (along_are : along ≡ thread_parts (reading_of d)) (parts_are : parts ≡ tidied_parts along) where
+module _ (d : Disk) (along parts : List PairPart) (along_are : along ≡ thread_parts (reading_of d))
+    (parts_are : parts ≡ tidied_parts along) where
   are_left : parts ≡ left (reading_of d)
   are_left = parts_are ∙ ap tidied_parts along_are
 
@@ -198,8 +200,8 @@ none_planned d changed can none = record {
 }
 
 -- as when its thread isn't whole, or there is a state
-pub unfit_thread : (d : Disk) (along : List PairPart) (whole : Bool) → along ≡ thread_parts (reading_of d) → whole ≡ has_thread (reading_of d)
-    → (whole && (delta_from along == 0)) ≡ false → can_tidy (reading_of d) ≡ false
+pub unfit_thread : (d : Disk) (along : List PairPart) (whole : Bool) → along ≡ thread_parts (reading_of d)
+    → whole ≡ has_thread (reading_of d) → (whole && (delta_from along == 0)) ≡ false → can_tidy (reading_of d) ≡ false
 unfit_thread d along whole along_are whole_is unfit =
     let r : Reading = reading_of d in
     and_left (has_thread r && (delta_from (thread_parts r) == 0)) (list_all (λ p. can_hold r p) (left r))
@@ -270,7 +272,8 @@ module _ (depend : PartsDependOnTheirBlocks) (d e : Disk) where
       size = put.size;
       count = put.count;
       held = λ p there.
-          let q = contains_of (λ (x : PairPart). x.0) (left old) p (subst (λ (ps : List Pair). Contains ps p) (sym (pairs_are old can)) there) in
+          let there_too = subst (λ (ps : List Pair). Contains ps p) (sym (pairs_are old can)) there in
+          let q = contains_of (λ (x : PairPart). x.0) (left old) p there_too in
           subst (λ (x : Pair). stored_part_of e x ≡ (tidied old).part x) q.2 (held_there q.0 q.1);
       others = λ b none.
           let unnamed : pairs_name b (pairs_in (left old)) ≡ 0 = ap (pairs_name b) (pairs_are old can) ∙ none in
@@ -297,12 +300,19 @@ module _ (depend : PartsDependOnTheirBlocks) (d e : Disk) where
   image_by false can put same = left_image can put same
 
   -- the image in which the parts of a plan are put
-  pub planned_image : (changed : List PairPart) → ArePlanned d changed → ArePartsPut d e changed → (changed ≡ [] → e ≡ d) → IsTidiedImage d e
+  pub planned_image : (changed : List PairPart) → ArePlanned d changed → ArePartsPut d e changed → (changed ≡ [] → e ≡ d)
+      → IsTidiedImage d e
   planned_image changed plan put same =
       image_by (can_tidy old) refl (subst (ArePartsPut d e) plan.changed_are put) (λ none. same (plan.changed_are ∙ none))
 
 none_put : (d : Disk) → IsDisk d → ArePartsPut d d []
-none_put d disk = record { disk = disk; size = refl; count = refl; held = λ p there. absurd (contains_none p there); others = λ b none. refl }
+none_put d disk = record {
+  disk = disk;
+  size = refl;
+  count = refl;
+  held = λ p there. absurd (contains_none p there);
+  others = λ b none. refl;
+}
 
 -- and the one in which no part is to be put
 pub untouched_image : PartsDependOnTheirBlocks → (d : Disk) (changed : List PairPart) → IsDisk d → ArePlanned d changed → changed ≡ []

@@ -118,7 +118,8 @@ module _ (r : Reading) (v : Volume) (h : Holds r v) (can : can_tidy r ≡ true) 
 
   -- ---- entries
 
-  later_resolved : (p : Pair) (s : StoredPart) → Contains (pairs_in (left r)) p → p ≢ root → now.part p ≡ Some s → All (IsResolved r) s.entries
+  later_resolved : (p : Pair) (s : StoredPart) → Contains (pairs_in (left r)) p → p ≢ root → now.part p ≡ Some s
+      → All (IsResolved r) s.entries
   later_resolved p s there other read =
       let q = contains_of (λ (x : PairPart). x.0) (left r) p there in
       let of = tidied_of along q.0 q.1 in

@@ -1,6 +1,8 @@
 //! Laws of tidied images: each function does nothing but call laws, and its contract is the law.
 
-ghost use Rattle.lfs_tidy.specs.Laws.{NoneIsToBePut, TidiedAreLinked, TidiedHaveEntries, TidiedHaveNoShares, TidiedImagesHaveTheParts, TidiedImagesHoldWhatIsTidied, TidiedImagesKeepTheTree, TidiedKeepTheTree, TidiedNameNoMore, TidiedStay};
+ghost use Rattle.lfs_tidy.specs.Laws.{NoneIsToBePut, TidiedAreLinked, TidiedHaveEntries, TidiedHaveNoShares, TidiedImagesHaveTheParts};
+ghost use Rattle.lfs_tidy.specs.Laws.{TidiedImagesHoldWhatIsTidied, TidiedImagesKeepTheTree, TidiedKeepTheTree, TidiedNameNoMore};
+ghost use Rattle.lfs_tidy.specs.Laws.{TidiedStay};
 
 use lfs_file::chains_stay_on_their_blocks;
 use lfs_fs::{both_sides_hold, same_readings_hold_the_same, stored_links_stay};

@@ -33,8 +33,8 @@ each-preserved g c =
       second = All-tail (λ (p : PairPart). p.0.1 < n) c.in-Some.part (into_iter_items c.next.new.self)
           (subst (All (λ (p : PairPart). p.0.1 < n)) c.in-Some.ensures.steps.0 c.each.invariant.second);
       left = pushed_more (λ (p : PairPart). is_held r p) c.in_ok-held.held
-          (filter (λ (p : PairPart). not (is_held r p)) c.args.parts.items) c.each.changed.items c.push_unless.new.changed.items c.in-Some.part
-          (into_iter_items c.next.new.self) c.in_ok-held.ensures c.in_ok-push_unless.ensures
+          (filter (λ (p : PairPart). not (is_held r p)) c.args.parts.items) c.each.changed.items c.push_unless.new.changed.items
+          c.in-Some.part (into_iter_items c.next.new.self) c.in_ok-held.ensures c.in_ok-push_unless.ensures
           (subst (λ (ps : List PairPart). filter (λ (p : PairPart). not (is_held r p)) c.args.parts.items
           ≡ c.each.changed.items ++ filter (λ (p : PairPart). not (is_held r p)) ps) c.in-Some.ensures.steps.0 c.each.invariant.left);
     }

@@ -95,14 +95,16 @@ walk-preserved g c =
 pub returns-clause-parts : goal.returns-clause-parts
 returns-clause-parts g c =
     let r = reading_of (g.B.Blocks.disk c.args.blocks.now) in
-    (walked_all r c.walk.table c.walk.invariant.0 c.walk.parts.items
-    (subst (λ (o : Option Pair). AreWalked r c.walk.table c.walk.invariant.0 c.walk.parts.items o) c.in_default.is c.walk.invariant.1)).parts_are
+    let walked = subst (λ (o : Option Pair). AreWalked r c.walk.table c.walk.invariant.0 c.walk.parts.items o) c.in_default.is
+    c.walk.invariant.1 in
+    (walked_all r c.walk.table c.walk.invariant.0 c.walk.parts.items walked).parts_are
 
 pub returns-clause-whole : goal.returns-clause-whole
 returns-clause-whole g c =
     let r = reading_of (g.B.Blocks.disk c.args.blocks.now) in
-    (walked_all r c.walk.table c.walk.invariant.0 c.walk.parts.items
-    (subst (λ (o : Option Pair). AreWalked r c.walk.table c.walk.invariant.0 c.walk.parts.items o) c.in_default.is c.walk.invariant.1)).whole_is
+    let walked = subst (λ (o : Option Pair). AreWalked r c.walk.table c.walk.invariant.0 c.walk.parts.items o) c.in_default.is
+    c.walk.invariant.1 in
+    (walked_all r c.walk.table c.walk.invariant.0 c.walk.parts.items walked).whole_is
 
 pub returns-clause-complete : goal.returns-clause-complete
 returns-clause-complete g c = c.walk.invariant.1.complete

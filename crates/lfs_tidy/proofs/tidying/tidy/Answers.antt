@@ -14,7 +14,8 @@ returns-then-is_empty c =
     let changed : List PairPart = c.in_ok-changed.changed.items in
     untouched_image c.parts_depend_on_their_blocks.ensures c.args.image.now.disk changed c.size-fits_the_limits.ensures.disk
     c.in_ok-changed.ensures
-    (no_parts changed (vec_len c.in_ok-changed.changed) c.is_empty.result c.in_ok-changed.changed.ok.0 c.is_empty.ensures c.if-is_empty.true)
+    (no_parts changed (vec_len c.in_ok-changed.changed) c.is_empty.result c.in_ok-changed.changed.ok.0 c.is_empty.ensures
+    c.if-is_empty.true)
 
 pub put_parts-requires-clause-can : goal.put_parts-requires-clause-can
 put_parts-requires-clause-can c =
