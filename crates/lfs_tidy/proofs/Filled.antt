@@ -2,6 +2,7 @@
 use Rattle.std.proofs.Common.{◌≡◌, inl, inr, ℕ, suc, ◌-◌, ◌≤◌, ◌==◌, Bool, true, false, List, [], ◌∷◌, ◌++◌, length, map, Some, None}
 use Rattle.std.proofs.Common.{refl, ap, sym, ◌∙◌, subst, arith}
 use Rattle.std.specs.Prelude.{◌&&◌, Contains, if◌then◌else◌, replicate, slice_get, sum_by}
+use Rattle.std.proofs.lemmas.Bool.{eq-eqb, eqb-true}
 use Rattle.std.proofs.lemmas.Bool.Decides.{nat_tests}
 use Rattle.std.proofs.lemmas.List.Sums.{sum_by-cons}
 use Rattle.std.proofs.lemmas.Option.{same_Some}
@@ -9,16 +10,15 @@ use Rattle.lfs_meta.specs.declared.tail.Tail.{Tail}
 use Rattle.lfs_meta.specs.Body.{Pair}
 use Rattle.lfs_meta.specs.Entry.{StoredEntry}
 use Rattle.lfs_fs.specs.Front.{pair_names}
-use Rattle.lfs_fs.specs.Gathering.{PairPart}
+use Rattle.lfs_fs.specs.Gathering.{PairPart, delta_from}
 use Rattle.lfs_fs.specs.Thread.{is_hard}
 use Rattle.lfs_fs.proofs.ContainsLemmas.{contains_cases, contains_first, contains_later, contains_none}
 use Rattle.lfs_settle.specs.Laws.{AreLinked, first_pair}
 use Rattle.lfs_settle.specs.Settled.{ending, without_share}
 use Rattle.lfs_settle.proofs.PartLists.{contains_of}
-use Rattle.lfs_settle.proofs.SettledThread.{linked_same}
-use Rattle.lfs_tidy.specs.Laws.{HaveEntries, HaveNoShares, TidiedAreLinked, TidiedHaveEntries, TidiedHaveNoShares, TidiedNameNoMore}
-use Rattle.lfs_tidy.specs.Laws.{TidiedStay}
-use Rattle.lfs_tidy.specs.Tidied.{is_empty, tidied_parts, with_tail_of, without_emptied}
+use Rattle.lfs_settle.proofs.SettledThread.{linked_same, shares_none}
+use Rattle.lfs_tidy.specs.Laws.{HaveEntries, TidiedAreLinked, TidiedHaveEntries, TidiedHaveNoState, TidiedNameNoMore, TidiedStay}
+use Rattle.lfs_tidy.specs.Tidied.{cleared_unless, is_empty, tidied_parts, with_tail_of, without_emptied}
 use Rattle.lfs_tidy.specs.Tidying.{ends_hard, put_next}
 
 -- ---- one step
@@ -58,13 +58,37 @@ filled_linked p (q ∷ qs) linked =
     linked_by (is_hard p.1.tail && is_empty q.1.entries) p q qs linked (filled_linked (with_tail_of q p) qs linked.1)
     (filled_linked q qs linked.1)
 
+-- a part that keeps its share, or has none
+abbrev pub share_by : Bool → PairPart → PairPart
+share_by keeps p =
+    (p.0, record { entries = p.1.entries; tail = p.1.tail; delta = if keeps then p.1.delta else replicate 12 0 })
+
+-- whether all parts stay
+abbrev pub all_stay : PairPart → List PairPart → Bool
+all_stay p qs = length (without_emptied p qs) == length (p ∷ qs)
+
+shares_kept : (ps : List PairPart) → map (share_by true) ps ≡ ps
+shares_kept [] = refl
+shares_kept (p ∷ ps) = ap (λ (xs : List PairPart). p ∷ xs) (shares_kept ps)
+
+cleared_is : (keep : Bool) (ps : List PairPart) → (if keep then ps else map without_share ps) ≡ map (share_by keep) ps
+cleared_is true ps = sym (shares_kept ps)
+cleared_is false ps = refl
+
+pub tidied_is_filled : (p : PairPart) (qs : List PairPart) → tidied_parts (p ∷ qs) ≡ map (share_by (all_stay p qs)) (without_emptied p qs)
+tidied_is_filled p qs = cleared_is (all_stay p qs) (without_emptied p qs)
+
 pub tidied_linked : TidiedAreLinked
 tidied_linked [] linked = tt
-tidied_linked (p ∷ ps) linked = linked_same without_share (λ q. refl) (λ q. refl) (without_emptied p ps) (filled_linked p ps linked)
+tidied_linked (p ∷ ps) linked =
+    subst AreLinked (sym (tidied_is_filled p ps))
+    (linked_same (share_by (all_stay p ps)) (λ q. refl) (λ q. refl) (without_emptied p ps) (filled_linked p ps linked))
 
 pub tidied_first : (ps : List PairPart) → first_pair (tidied_parts ps) ≡ first_pair ps
 tidied_first [] = refl
-tidied_first (p ∷ ps) = ap (λ (xs : List PairPart). first_pair (map without_share xs)) (begins p ps).is
+tidied_first (p ∷ ps) =
+    ap first_pair (tidied_is_filled p ps)
+    ∙ ap (λ (xs : List PairPart). first_pair (map (share_by (all_stay p ps)) xs)) (begins p ps).is
 
 -- ---- sums over parts
 
@@ -99,20 +123,26 @@ module _ (f : PairPart → ℕ) (of : OfPairAndEntries f) where
   sum_filled p (q ∷ qs) =
       sum_by_step (is_hard p.1.tail && is_empty q.1.entries) p q qs (sum_filled (with_tail_of q p) qs) (sum_filled q qs)
 
-  sum_unshared : (ps : List PairPart) → sum_by f (map without_share ps) ≡ sum_by f ps
-  sum_unshared [] = refl
-  sum_unshared (p ∷ ps) =
+  sum_shared : (keep : Bool) (ps : List PairPart) → sum_by f (map (share_by keep) ps) ≡ sum_by f ps
+  sum_shared keep [] = refl
+  sum_shared keep (p ∷ ps) =
       omega (
         arith,
-        of.same p p.1.tail (replicate 12 0),
-        sum_by-cons f (without_share p) (map without_share ps),
+        of.same p p.1.tail (share_by keep p).1.delta,
+        sum_by-cons f (share_by keep p) (map (share_by keep) ps),
         sum_by-cons f p ps,
-        sum_unshared ps,
+        sum_shared keep ps,
       )
 
   pub sum_tidied : (ps : List PairPart) → sum_by f (tidied_parts ps) ≤ sum_by f ps
   sum_tidied [] = omega arith
-  sum_tidied (p ∷ ps) = omega (arith, sum_unshared (without_emptied p ps), sum_filled p ps)
+  sum_tidied (p ∷ ps) =
+      omega (
+        arith,
+        ap (sum_by f) (tidied_is_filled p ps),
+        sum_shared (all_stay p ps) (without_emptied p ps),
+        sum_filled p ps,
+      )
 
 pub tidied_names : TidiedNameNoMore
 tidied_names ps b =
@@ -139,22 +169,15 @@ filled_have p [] = tt
 filled_have p (q ∷ qs) =
     have_by (is_hard p.1.tail && is_empty q.1.entries) p q qs refl (filled_have (with_tail_of q p) qs) (filled_have q qs)
 
-have_unshared : (ps : List PairPart) → HaveEntries ps → HaveEntries (map without_share ps)
-have_unshared [] have = tt
-have_unshared (p ∷ []) have = tt
-have_unshared (p ∷ q ∷ ps) have = (have.0, have_unshared (q ∷ ps) have.1)
+have_shared : (keep : Bool) (ps : List PairPart) → HaveEntries ps → HaveEntries (map (share_by keep) ps)
+have_shared keep [] have = tt
+have_shared keep (p ∷ []) have = tt
+have_shared keep (p ∷ q ∷ ps) have = (have.0, have_shared keep (q ∷ ps) have.1)
 
 pub tidied_have_entries : TidiedHaveEntries
 tidied_have_entries [] = tt
-tidied_have_entries (p ∷ ps) = have_unshared (without_emptied p ps) (filled_have p ps)
-
-unshared_have_none : (ps : List PairPart) → HaveNoShares (map without_share ps)
-unshared_have_none [] = tt
-unshared_have_none (p ∷ ps) = (refl, unshared_have_none ps)
-
-pub tidied_have_no_shares : TidiedHaveNoShares
-tidied_have_no_shares [] = tt
-tidied_have_no_shares (p ∷ ps) = unshared_have_none (without_emptied p ps)
+tidied_have_entries (p ∷ ps) =
+    subst HaveEntries (sym (tidied_is_filled p ps)) (have_shared (all_stay p ps) (without_emptied p ps) (filled_have p ps))
 
 -- ---- what stays
 
@@ -163,15 +186,42 @@ filled_stay p [] have = refl
 filled_stay p (q ∷ qs) have =
     ap (λ (b : Bool). filled_by b p q qs) have.0 ∙ ap (λ (xs : List PairPart). p ∷ xs) (filled_stay q qs have.1)
 
-unshared_stay : (ps : List PairPart) → HaveNoShares ps → map without_share ps ≡ ps
-unshared_stay [] none = refl
-unshared_stay (p ∷ ps) none =
-    ap (λ (d : List ℕ). (p.0, record { entries = p.1.entries; tail = p.1.tail; delta = d }) ∷ map without_share ps) (sym none.0)
-    ∙ ap (λ (xs : List PairPart). p ∷ xs) (unshared_stay ps none.1)
-
 pub tidied_stays : TidiedStay
-tidied_stays [] have none = refl
-tidied_stays (p ∷ ps) have none = ap (map without_share) (filled_stay p ps have) ∙ unshared_stay (p ∷ ps) none
+tidied_stays [] have = refl
+tidied_stays (p ∷ ps) have =
+    ap (cleared_unless (length (p ∷ ps))) (filled_stay p ps have)
+    ∙ ap (λ (same : Bool). if same then p ∷ ps else map without_share (p ∷ ps)) (eq-eqb (length (p ∷ ps)) (length (p ∷ ps)) refl)
+
+-- ---- the state
+
+most_by : (leaves : Bool) (p q : PairPart) (qs : List PairPart) → length (without_emptied (with_tail_of q p) qs) ≤ length (p ∷ qs)
+    → length (without_emptied q qs) ≤ length (q ∷ qs) → length (filled_by leaves p q qs) ≤ length (p ∷ q ∷ qs)
+most_by true p q qs gone stays = omega (arith, gone)
+most_by false p q qs gone stays = omega (arith, stays)
+
+most_filled : (p : PairPart) (qs : List PairPart) → length (without_emptied p qs) ≤ length (p ∷ qs)
+most_filled p [] = omega arith
+most_filled p (q ∷ qs) =
+    most_by (is_hard p.1.tail && is_empty q.1.entries) p q qs (most_filled (with_tail_of q p) qs) (most_filled q qs)
+
+as_many_by : (leaves : Bool) (p q : PairPart) (qs : List PairPart) → length (filled_by leaves p q qs) ≡ length (p ∷ q ∷ qs)
+    → (length (without_emptied q qs) ≡ length (q ∷ qs) → without_emptied q qs ≡ q ∷ qs) → filled_by leaves p q qs ≡ p ∷ q ∷ qs
+as_many_by true p q qs many rest = absurd (omega (arith, many, most_filled (with_tail_of q p) qs))
+as_many_by false p q qs many rest = ap (λ (xs : List PairPart). p ∷ xs) (rest (omega (arith, many)))
+
+-- as many parts are the same ones
+as_many : (p : PairPart) (qs : List PairPart) → length (without_emptied p qs) ≡ length (p ∷ qs) → without_emptied p qs ≡ p ∷ qs
+as_many p [] many = refl
+as_many p (q ∷ qs) many = as_many_by (is_hard p.1.tail && is_empty q.1.entries) p q qs many (as_many q qs)
+
+state_by : (keep : Bool) (p : PairPart) (qs : List PairPart) → all_stay p qs ≡ keep → delta_from (p ∷ qs) ≡ 0
+    → delta_from (if keep then without_emptied p qs else map without_share (without_emptied p qs)) ≡ 0
+state_by true p qs is none = ap delta_from (as_many p qs (eqb-true (length (without_emptied p qs)) (length (p ∷ qs)) is)) ∙ none
+state_by false p qs is none = shares_none (without_emptied p qs)
+
+pub tidied_no_state : TidiedHaveNoState
+tidied_no_state [] none = none
+tidied_no_state (p ∷ ps) none = state_by (all_stay p ps) p ps refl none
 
 -- ---- where a tidied part comes from
 
@@ -225,7 +275,8 @@ filled_of p (q ∷ qs) x there =
 pub tidied_of : (ts : List PairPart) (q : PairPart) → Contains (tidied_parts ts) q → IsOf ts q
 tidied_of [] q there = absurd (contains_none q there)
 tidied_of (p ∷ ps) q there =
-    let before = contains_of without_share (without_emptied p ps) q there in
+    let before = contains_of (share_by (all_stay p ps)) (without_emptied p ps) q
+    (subst (λ (xs : List PairPart). Contains xs q) (tidied_is_filled p ps) there) in
     let of = filled_of p ps before.0 before.1 in
     record {
       part = of.part;
@@ -240,20 +291,24 @@ pub record IsFirst (pair : Pair) (ts : List PairPart) : Type 0 where
   pub there : Contains ts part
   pub at : part.0 ≡ pair
   pub tail : Tail
-  pub stays : Contains (tidied_parts ts) (part.0, record { entries = part.1.entries; tail = tail; delta = replicate 12 0 })
+  pub delta : List ℕ
+  pub stays : Contains (tidied_parts ts) (part.0, record { entries = part.1.entries; tail = tail; delta = delta })
 
 pub first_stays : (pair : Pair) (ts : List PairPart) → first_pair ts ≡ Some pair → IsFirst pair ts
 first_stays pair [] is = cc
 first_stays pair (p ∷ ps) is =
     let begun = begins p ps in
-    let now : PairPart = (p.0, record { entries = p.1.entries; tail = begun.tail; delta = replicate 12 0 }) in
+    let share : List ℕ = (share_by (all_stay p ps) p).1.delta in
+    let now : PairPart = (p.0, record { entries = p.1.entries; tail = begun.tail; delta = share }) in
     record {
       part = p;
       there = contains_first p ps;
       at = same_Some p.0 pair is;
       tail = begun.tail;
-      stays = subst (λ (xs : List PairPart). Contains (map without_share xs) now) (sym begun.is)
-          (contains_first now (map without_share begun.more));
+      delta = share;
+      stays = subst (λ (xs : List PairPart). Contains xs now) (sym (tidied_is_filled p ps))
+          (subst (λ (xs : List PairPart). Contains (map (share_by (all_stay p ps)) xs) now) (sym begun.is)
+          (contains_first now (map (share_by (all_stay p ps)) begun.more)));
     }
 
 -- ---- one part after another
@@ -299,15 +354,18 @@ none_left (p ∷ []) = refl
 none_left (p ∷ q ∷ ps) = ap (λ (xs : List PairPart). p ∷ xs) (none_left (q ∷ ps))
 
 -- all of them
-unshared_all : (ps : List PairPart) → map without_share (left_of [] ps) ≡ tidied_parts ps
-unshared_all [] = refl
-unshared_all (p ∷ ps) = refl
+cleared_all : (ps : List PairPart) → cleared_unless (length ps) (left_of [] ps) ≡ tidied_parts ps
+cleared_all [] = refl
+cleared_all (p ∷ ps) = refl
 
-pub all_put : (ps kept now rest : List PairPart) → length rest ≡ 0 → now ≡ map without_share kept → left_of [] ps ≡ left_of kept rest
-    → now ≡ tidied_parts ps
-all_put ps kept now [] none unshared is =
-    unshared ∙ ap (map without_share) (sym (none_left kept) ∙ sym is) ∙ unshared_all ps
-all_put ps kept now (q ∷ rest) none unshared is = absurd (omega (arith, none))
+pub all_put : (ps kept now rest : List PairPart) (count : ℕ) → length rest ≡ 0 → count ≡ length ps → now ≡ cleared_unless count kept
+    → left_of [] ps ≡ left_of kept rest → now ≡ tidied_parts ps
+all_put ps kept now [] count none many cleared is =
+    cleared
+    ∙ ap (λ (n : ℕ). cleared_unless n kept) many
+    ∙ ap (cleared_unless (length ps)) (sym (none_left kept) ∙ sym is)
+    ∙ cleared_all ps
+all_put ps kept now (q ∷ rest) count none many cleared is = absurd (omega (arith, none))
 
 -- ---- the tests
 

@@ -9,10 +9,9 @@ use Rattle.lfs_fs.specs.Held.{resolved}
 use Rattle.lfs_fs.specs.Reading.{Reading}
 use Rattle.lfs_fs.specs.Thread.{is_hard, pieces}
 use Rattle.lfs_fs.proofs.FoldersLemmas.{cut_here}
-use Rattle.lfs_settle.specs.Settled.{without_share}
 use Rattle.lfs_tidy.specs.Tidied.{is_empty, tidied_parts, with_tail_of, without_emptied}
 use Rattle.lfs_tidy.proofs.AlikeVolumes.{AreAlike}
-use Rattle.lfs_tidy.proofs.Filled.{filled_by, none_of_empty}
+use Rattle.lfs_tidy.proofs.Filled.{all_stay, filled_by, none_of_empty, share_by, tidied_is_filled}
 
 -- ---- parts that are put before directories
 
@@ -69,29 +68,31 @@ made r ps = pieces (map (link_from r) ps)
 abbrev part_as : Reading → PairPart → Part
 part_as r p = (link_from r p).part
 
-module _ (r : Reading) where
+module _ (r : Reading) (keep : Bool) where
   alike_by : (leaves hard : Bool) (p q : PairPart) (qs : List PairPart) → is_hard p.1.tail ≡ hard
       → (hard && is_empty q.1.entries) ≡ leaves
-      → AreAlike (made r (with_tail_of q p ∷ qs)) (made r (map without_share (without_emptied (with_tail_of q p) qs)))
-      → AreAlike (made r (q ∷ qs)) (made r (map without_share (without_emptied q qs)))
-      → AreAlike (made r (p ∷ q ∷ qs)) (made r (map without_share (filled_by leaves p q qs)))
+      → AreAlike (made r (with_tail_of q p ∷ qs)) (made r (map (share_by keep) (without_emptied (with_tail_of q p) qs)))
+      → AreAlike (made r (q ∷ qs)) (made r (map (share_by keep) (without_emptied q qs)))
+      → AreAlike (made r (p ∷ q ∷ qs)) (made r (map (share_by keep) (filled_by leaves p q qs)))
   alike_by true hard p q qs tail is gone stays =
       let both = and_parts hard (is_empty q.1.entries) is in
       subst (λ (t : Bool). AreAlike (cut_here t (part_as r p) (made r (q ∷ qs)))
-      (made r (map without_share (without_emptied (with_tail_of q p) qs)))) (sym (tail ∙ both.0))
+      (made r (map (share_by keep) (without_emptied (with_tail_of q p) qs)))) (sym (tail ∙ both.0))
       (gone_alike (is_hard q.1.tail) (part_as r p) (part_as r q) (made r qs)
-      (made r (map without_share (without_emptied (with_tail_of q p) qs)))
+      (made r (map (share_by keep) (without_emptied (with_tail_of q p) qs)))
       (ap (flat_map (resolved r)) (none_of_empty q.1.entries both.1)) gone)
   alike_by false hard p q qs tail is gone stays =
-      cut_alike (is_hard p.1.tail) (part_as r p) (part_as r (without_share p)) (made r (q ∷ qs))
-      (made r (map without_share (without_emptied q qs))) refl refl stays
+      cut_alike (is_hard p.1.tail) (part_as r p) (part_as r (share_by keep p)) (made r (q ∷ qs))
+      (made r (map (share_by keep) (without_emptied q qs))) refl refl stays
 
-  filled_alike : (p : PairPart) (qs : List PairPart) → AreAlike (made r (p ∷ qs)) (made r (map without_share (without_emptied p qs)))
-  filled_alike p [] = cut_alike (is_hard p.1.tail) (part_as r p) (part_as r (without_share p)) [] [] refl refl tt
+  filled_alike : (p : PairPart) (qs : List PairPart) → AreAlike (made r (p ∷ qs)) (made r (map (share_by keep) (without_emptied p qs)))
+  filled_alike p [] = cut_alike (is_hard p.1.tail) (part_as r p) (part_as r (share_by keep p)) [] [] refl refl tt
   filled_alike p (q ∷ qs) =
       alike_by (is_hard p.1.tail && is_empty q.1.entries) (is_hard p.1.tail) p q qs refl refl (filled_alike (with_tail_of q p) qs)
       (filled_alike q qs)
 
-  pub tidied_alike : (ts : List PairPart) → AreAlike (made r ts) (made r (tidied_parts ts))
-  tidied_alike [] = tt
-  tidied_alike (p ∷ ps) = filled_alike p ps
+pub tidied_alike : (r : Reading) (ts : List PairPart) → AreAlike (made r ts) (made r (tidied_parts ts))
+tidied_alike r [] = tt
+tidied_alike r (p ∷ ps) =
+    subst (λ (xs : List PairPart). AreAlike (made r (p ∷ ps)) (made r xs)) (sym (tidied_is_filled p ps))
+    (filled_alike r (all_stay p ps) p ps)

@@ -4,7 +4,7 @@ use Rattle.std.proofs.Common.{◌∙◌, subst, arith}
 use Rattle.std.specs.Prelude.{All, Contains, ◌&&◌, bytes_eq, cond, if◌then◌else◌, not}
 use Rattle.std.specs.List.{AllByRecursion, filter, list_all}
 use Rattle.std.specs.Option.{option_map_or}
-use Rattle.std.proofs.lemmas.Bool.{and_from, and_left, and_parts, eq-eqb, eqb-false}
+use Rattle.std.proofs.lemmas.Bool.{and_from, and_left, and_parts, eq-eqb, eqb-false, eqb-true}
 use Rattle.std.proofs.lemmas.Bool.Decides.{nat_tests}
 use Rattle.std.proofs.lemmas.Option.{same_Some}
 use Rattle.std.proofs.lemmas.Slice.Eq.{bytes_eq-Decides}
@@ -36,10 +36,10 @@ use Rattle.lfs_settle.proofs.SettledBlocks.{has_part, part_is, parts_thread, tai
 use Rattle.lfs_settle.proofs.ThreadPairs.{thread_found, thread_is_front}
 use Rattle.lfs_settle.proofs.ThreadParts.{LinkedFrom, held_is}
 use Rattle.lfs_settle.proofs.WholeThread.{held_named, names_second, thread_once, whole_linked}
-use Rattle.lfs_tidy.specs.Laws.{NoneIsToBePut}
+use Rattle.lfs_tidy.specs.Laws.{TidiedImagesStay}
 use Rattle.lfs_tidy.specs.Planned.{ArePlanned}
 use Rattle.lfs_tidy.specs.Tidied.{IsTidiedImage, can_tidy, changed_parts, parts_to_put, tidied, tidied_parts}
-use Rattle.lfs_tidy.proofs.Filled.{tidied_first, tidied_linked, tidied_names, tidied_of}
+use Rattle.lfs_tidy.proofs.Filled.{tidied_first, tidied_linked, tidied_names, tidied_of, tidied_stays}
 
 -- the parts that stay of a thread
 abbrev pub left : Reading → List PairPart
@@ -113,6 +113,12 @@ module _ (r : Reading) (can : can_tidy r ≡ true) where
       whole_linked r
       (and_parts (has_thread r) (delta_from (thread_parts r) == 0)
       (and_parts (has_thread r && (delta_from (thread_parts r) == 0)) (list_all (λ p. can_hold r p) (left r)) can).0).0
+
+  pub no_state_if : delta_from (thread_parts r) ≡ 0
+  no_state_if =
+      eqb-true (delta_from (thread_parts r)) 0
+      (and_parts (has_thread r) (delta_from (thread_parts r) == 0)
+      (and_parts (has_thread r && (delta_from (thread_parts r) == 0)) (list_all (λ p. can_hold r p) (left r)) can).0).1
 
   pub tidied_is : tidied r ≡ with_parts r (left r)
   tidied_is = ap (λ (b : Bool). if b then with_parts r (left r) else r) can
@@ -360,8 +366,11 @@ none_by : (r : Reading) (t : Bool) → changed_parts r ≡ [] → (if t then cha
 none_by r true none = none
 none_by r false none = refl
 
-pub none_is_put : NoneIsToBePut
+none_is_put : (r : Reading) → tidied_parts (thread_parts r) ≡ thread_parts r → parts_to_put r ≡ []
 none_is_put r same =
     none_by r (can_tidy r)
     (ap (λ (ps : List PairPart). filter (λ p. not (is_held r p)) ps) same
     ∙ none_changed r (thread_parts r) (λ q there. held_itself r q (held_is r (thread_pairs r) q there)))
+
+pub tidied_images_stay : TidiedImagesStay
+tidied_images_stay d e is have = is.stays (none_is_put (reading_of d) (tidied_stays (thread_parts (reading_of d)) have))

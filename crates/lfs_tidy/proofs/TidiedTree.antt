@@ -1,11 +1,11 @@
 -- What holds a sound volume holds one with the same tree once it is tidied.
 use Rattle.std.proofs.Common.{◌≡◌, ◌≢◌, ℕ, ◌≤◌, Bool, true, false, List, [], ◌∷◌, map, Option, Some, refl, ap, sym, ◌∙◌, subst, arith}
-use Rattle.std.specs.Prelude.{All, Contains, replicate, sum_by}
+use Rattle.std.specs.Prelude.{All, Contains, sum_by}
 use Rattle.std.proofs.lemmas.Option.{same_Some}
 use Rattle.lfs_meta.specs.Body.{Pair}
 use Rattle.lfs_meta.specs.Part.{StoredPart}
 use Rattle.lfs_fs.specs.Directory.{Directory, thread}
-use Rattle.lfs_fs.specs.Gathering.{PairPart, delta_from, link_from}
+use Rattle.lfs_fs.specs.Gathering.{PairPart, link_from}
 use Rattle.lfs_fs.specs.Held.{link_at, link_of, volume_at}
 use Rattle.lfs_fs.specs.Holds.{Holds, IsResolved}
 use Rattle.lfs_fs.specs.Pair.{root}
@@ -26,15 +26,14 @@ use Rattle.lfs_settle.specs.InStep.{thread_pairs, thread_parts}
 use Rattle.lfs_settle.specs.Settled.{with_parts}
 use Rattle.lfs_settle.proofs.PartLists.{contains_of}
 use Rattle.lfs_settle.proofs.SettledBlocks.{has_part}
-use Rattle.lfs_settle.proofs.SettledThread.{shares_none}
 use Rattle.lfs_settle.proofs.ThreadPairs.{thread_found}
 use Rattle.lfs_settle.proofs.ThreadParts.{held_is, held_pair, links_are}
 use Rattle.lfs_tidy.specs.Laws.{HoldsTheTreeOf, TidiedImagesKeepTheTree, TidiedKeepTheTree}
-use Rattle.lfs_tidy.specs.Tidied.{can_tidy, tidied, tidied_parts, without_emptied}
+use Rattle.lfs_tidy.specs.Tidied.{can_tidy, tidied}
 use Rattle.lfs_tidy.proofs.AlikeVolumes.{AreAlike, LooksLike, same_tree, sound_alike}
-use Rattle.lfs_tidy.proofs.Filled.{first_stays, sum_mapped, sum_tidied, tidied_of}
+use Rattle.lfs_tidy.proofs.Filled.{first_stays, sum_mapped, sum_tidied, tidied_no_state, tidied_of}
 use Rattle.lfs_tidy.proofs.FilledAlike.{made, tidied_alike}
-use Rattle.lfs_tidy.proofs.TidiedBlocks.{left, left_once, left_thread, linked_if, tidied_is, untidied_is}
+use Rattle.lfs_tidy.proofs.TidiedBlocks.{left, left_once, left_thread, linked_if, no_state_if, tidied_is, untidied_is}
 use Rattle.lfs_tidy.proofs.TidiedImage.{tidied_images_hold}
 
 -- ---- links
@@ -58,10 +57,6 @@ part_use r b p = part_uses b (link_from r p).part
 -- and links do
 abbrev links_use : ℕ → List Link → ℕ
 links_use b ls = sum_by (λ (l : Link). part_uses b l.part) ls
-
-no_state : (ts : List PairPart) → delta_from (tidied_parts ts) ≡ 0
-no_state [] = refl
-no_state (p ∷ ps) = shares_none (without_emptied p ps)
 
 -- ---- a volume that is held
 
@@ -104,7 +99,7 @@ module _ (r : Reading) (v : Volume) (h : Holds r v) (can : can_tidy r ≡ true) 
   superblock : HasSuperblock now h.bytes h.attributes
   superblock =
       let first = first_stays root along (linked_if r can).first in
-      let part : StoredPart = record { entries = first.part.1.entries; tail = first.tail; delta = replicate 12 0 } in
+      let part : StoredPart = record { entries = first.part.1.entries; tail = first.tail; delta = first.delta } in
       let same : first.part.1 ≡ h.superblock.part =
       same_Some first.part.1 h.superblock.part
       (sym (held_is r (thread_pairs r) first.part first.there) ∙ ap r.part first.at ∙ h.superblock.read) in
@@ -173,7 +168,10 @@ module _ (r : Reading) (v : Volume) (h : Holds r v) (can : can_tidy r ≡ true) 
         let fewer : sum_by (part_use r b) (left r) ≤ sum_by (part_use r b) along =
         sum_tidied (part_use r b) (record { same = λ p tail delta. refl }) along in
         omega (arith, old_uses b, new_uses b, fewer);
-    state = ap (λ (ds : List Directory). delta_of (thread ds)) new_directories ∙ state_is r (left r) ∙ no_state along;
+    state =
+        ap (λ (ds : List Directory). delta_of (thread ds)) new_directories
+        ∙ state_is r (left r)
+        ∙ tidied_no_state along (no_state_if r can);
   }
 
   kept_now : IsSound v → HoldsTheTreeOf now v

@@ -1,9 +1,8 @@
 -- Laws of tidied parts and images (own).
-use Rattle.std.specs.Prelude.{ℕ, ◌≡◌, ◌≤◌, ◌↔◌, ◌&&◌, false, true, List, [], ◌∷◌, map, replicate}
-use Rattle.std.specs.List.{AllByRecursion}
+use Rattle.std.specs.Prelude.{ℕ, ◌≡◌, ◌≤◌, ◌↔◌, ◌&&◌, false, true, List, [], ◌∷◌, map}
 use Rattle.lfs_block.specs.Disk.{Disk, IsDisk}
 use Rattle.lfs_fs.specs.Front.{pairs_name}
-use Rattle.lfs_fs.specs.Gathering.{PairPart}
+use Rattle.lfs_fs.specs.Gathering.{PairPart, delta_from}
 use Rattle.lfs_fs.specs.Holds.{Holds}
 use Rattle.lfs_fs.specs.Path.{Path}
 use Rattle.lfs_fs.specs.Reading.{Reading, reading_of}
@@ -13,7 +12,7 @@ use Rattle.lfs_fs.specs.Tree.{tree}
 use Rattle.lfs_fs.specs.Volume.{Volume}
 use Rattle.lfs_settle.specs.InStep.{thread_parts}
 use Rattle.lfs_settle.specs.Laws.{AreLinked}
-use Rattle.lfs_tidy.specs.Tidied.{IsTidiedImage, can_tidy, is_empty, parts_to_put, tidied, tidied_parts}
+use Rattle.lfs_tidy.specs.Tidied.{IsTidiedImage, can_tidy, is_empty, tidied, tidied_parts}
 
 -- ---- lists of parts
 
@@ -23,21 +22,17 @@ HaveEntries [] = Unit {0}
 HaveEntries (p ∷ []) = Unit {0}
 HaveEntries (p ∷ q ∷ ps) = ((is_hard p.1.tail && is_empty q.1.entries) ≡ false) × HaveEntries (q ∷ ps)
 
--- no part has a share of the state
-abbrev pub HaveNoShares : List PairPart → Type 0
-HaveNoShares ps = AllByRecursion (λ p. p.1.delta ≡ replicate 12 0) ps
-
 -- the law: no tidied part to which a hard tail leads is empty
 abbrev pub TidiedHaveEntries : Type 0
 TidiedHaveEntries = (ps : List PairPart) → HaveEntries (tidied_parts ps)
 
--- the law: none has a share of the state
-abbrev pub TidiedHaveNoShares : Type 0
-TidiedHaveNoShares = (ps : List PairPart) → HaveNoShares (tidied_parts ps)
-
 -- the law: parts that are so stay
 abbrev pub TidiedStay : Type 0
-TidiedStay = (ps : List PairPart) → HaveEntries ps → HaveNoShares ps → tidied_parts ps ≡ ps
+TidiedStay = (ps : List PairPart) → HaveEntries ps → tidied_parts ps ≡ ps
+
+-- the law: parts without a state have none once they are tidied
+abbrev pub TidiedHaveNoState : Type 0
+TidiedHaveNoState = (ps : List PairPart) → delta_from ps ≡ 0 → delta_from (tidied_parts ps) ≡ 0
 
 -- the law: the parts that stay are one thread
 abbrev pub TidiedAreLinked : Type 0
@@ -49,9 +44,9 @@ TidiedNameNoMore = (ps : List PairPart) (b : ℕ) → pairs_name b (map (λ p. p
 
 -- ---- images
 
--- the law: if the parts along the thread are such that they stay, none is to be put
-abbrev pub NoneIsToBePut : Type 0
-NoneIsToBePut = (r : Reading) → tidied_parts (thread_parts r) ≡ thread_parts r → parts_to_put r ≡ []
+-- the law: an image in which no part to which a hard tail leads is empty stays as it was
+abbrev pub TidiedImagesStay : Type 0
+TidiedImagesStay = (d e : Disk) → IsTidiedImage d e → HaveEntries (thread_parts (reading_of d)) → e ≡ d
 
 -- the law: a tidied image holds the sound volumes that are read in the other one once it is tidied, and no other
 abbrev pub TidiedImagesHoldWhatIsTidied : Type 0

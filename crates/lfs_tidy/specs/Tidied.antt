@@ -1,5 +1,5 @@
 -- An image whose directories have no later part without an entry (SPEC.md, "0x6xx tail"; what leaves is own).
-use Rattle.std.specs.Prelude.{ℕ, ◌≡◌, ◌==◌, ◌&&◌, Bool, true, false, Contains, List, [], ◌∷◌, map, not, if◌then◌else◌}
+use Rattle.std.specs.Prelude.{ℕ, ◌≡◌, ◌==◌, ◌&&◌, Bool, true, false, Contains, List, [], ◌∷◌, length, map, not, if◌then◌else◌}
 use Rattle.std.specs.List.{filter, list_all}
 use Rattle.lfs_block.specs.Disk.{Disk, IsDisk, block_of}
 use Rattle.lfs_meta.specs.Body.{Pair}
@@ -18,7 +18,7 @@ abbrev pub is_empty : List StoredEntry → Bool
 is_empty [] = true
 is_empty (e ∷ es) = false
 
--- a part that leads on to what the part after it leads to
+-- a part with the tail of another one
 abbrev pub with_tail_of : PairPart → PairPart → PairPart
 with_tail_of q p = (p.0, record { entries = p.1.entries; tail = q.1.tail; delta = p.1.delta })
 
@@ -28,10 +28,14 @@ without_emptied p [] = p ∷ []
 without_emptied p (q ∷ qs) =
     if is_hard p.1.tail && is_empty q.1.entries then without_emptied (with_tail_of q p) qs else p ∷ without_emptied q qs
 
--- those that stay of a thread, none with a share of the state
+-- none of the parts has a share of the state, unless there are this many
+abbrev pub cleared_unless : ℕ → List PairPart → List PairPart
+cleared_unless count ps = if length ps == count then ps else map without_share ps
+
+-- The parts that stay of a thread. If some leave, those that stay have no share of the state: all shares cancel each other.
 abbrev pub tidied_parts : List PairPart → List PairPart
 tidied_parts [] = []
-tidied_parts (p ∷ ps) = map without_share (without_emptied p ps)
+tidied_parts (p ∷ ps) = cleared_unless (length (p ∷ ps)) (without_emptied p ps)
 
 -- ---- an image
 

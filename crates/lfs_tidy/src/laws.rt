@@ -1,25 +1,25 @@
 //! Laws of tidied images: each function does nothing but call laws, and its contract is the law.
 
-ghost use Rattle.lfs_tidy.specs.Laws.{NoneIsToBePut, TidiedAreLinked, TidiedHaveEntries, TidiedHaveNoShares, TidiedImagesHaveTheParts};
-ghost use Rattle.lfs_tidy.specs.Laws.{TidiedImagesHoldWhatIsTidied, TidiedImagesKeepTheTree, TidiedKeepTheTree, TidiedNameNoMore};
-ghost use Rattle.lfs_tidy.specs.Laws.{TidiedStay};
+ghost use Rattle.lfs_tidy.specs.Laws.{TidiedAreLinked, TidiedHaveEntries, TidiedHaveNoState, TidiedNameNoMore, TidiedStay};
+ghost use Rattle.lfs_tidy.specs.Laws.{TidiedImagesHaveTheParts, TidiedImagesHoldWhatIsTidied, TidiedImagesKeepTheTree};
+ghost use Rattle.lfs_tidy.specs.Laws.{TidiedImagesStay, TidiedKeepTheTree};
 
 use lfs_file::chains_stay_on_their_blocks;
 use lfs_fs::{both_sides_hold, same_readings_hold_the_same, stored_links_stay};
 
-/// A law: no tidied part to which a hard tail leads is empty, and none has a share of the state. Tidied parts are one thread, of pairs
-/// that were there.
+/// A law: no tidied part to which a hard tail leads is empty. Tidied parts are one thread, of pairs that were there, without a state if
+/// there was none.
 pub fn tidied_parts_have_entries()
     ensures entries { TidiedHaveEntries }
-    ensures shares { TidiedHaveNoShares }
+    ensures no_state { TidiedHaveNoState }
     ensures linked { TidiedAreLinked }
     ensures named { TidiedNameNoMore }
 {}
 
-/// A law: parts that are tidied stay, and none of them is to be put.
+/// A law: parts none of which is empty after a hard tail stay, and an image with such parts stays byte for byte.
 pub fn tidied_stay()
-    ensures stay { TidiedStay }
-    ensures none { NoneIsToBePut }
+    ensures parts { TidiedStay }
+    ensures images { TidiedImagesStay }
 {}
 
 /// A law: a tidied image holds the sound volumes that are read in the other one once it is tidied, and no other. If it can be tidied, the

@@ -1,4 +1,4 @@
-//! Images whose directories have no later part without an entry: a real littlefs lists a directory that has one without end.
+//! Images from whose directories the later parts without an entry leave: a real littlefs never ends listing a directory with such a part.
 #![tactic(auto)]
 
 mod laws;

@@ -1,7 +1,7 @@
 //! Parts of a thread, of which those leave that are empty after a hard tail.
 
 ghost use Rattle.std.specs.Prelude.{◌≡◌, ◌&&◌, IfOk, OnOk};
-ghost use Rattle.lfs_tidy.specs.Tidied.{is_empty, tidied_parts};
+ghost use Rattle.lfs_tidy.specs.Tidied.{cleared_unless, is_empty, tidied_parts};
 ghost use Rattle.lfs_tidy.specs.Tidying.{ends_hard, put_next};
 
 use lfs_meta::{Entry, Part};
@@ -44,15 +44,26 @@ fn put_next(kept: &mut Vec<Part>, part: Part) -> Result<(), AllocError>
     Ok(())
 }
 
-/// What stays of the parts along a thread: those that are empty later parts of directories are gone, and no share of the state is left.
-/// Takes memory.
+/// Takes the shares of the state off parts, unless there are this many.
+fn clear_unless(parts: &mut Vec<Part>, count: usize)
+    ensures { parts.new.items ≡ cleared_unless count parts.old.items }
+{
+    if parts.len() == count {
+        return;
+    }
+    clear_all(parts);
+}
+
+/// What stays of the parts along a thread: those that are empty later parts of directories are gone. If there are such, no share of the
+/// state is left. Takes memory.
 pub(crate) fn tidied_parts(alloc: Global, parts: Vec<Part>) -> Result<Vec<Part>, AllocError>
     ensures { IfOk result (λ tidied. tidied.items ≡ tidied_parts parts.items) }
 {
+    let count = parts.len();
     let mut kept = Vec::new(alloc);
     'each: for part in parts {
         put_next(&mut kept, part)?;
     }
-    clear_all(&mut kept);
+    clear_unless(&mut kept, count);
     Ok(kept)
 }

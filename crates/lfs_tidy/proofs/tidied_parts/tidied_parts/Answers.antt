@@ -14,5 +14,6 @@ each-preserved c = record {
 
 pub returns : goal.returns
 returns c =
-    all_put c.args.parts.items c.each.kept.items c.clear_all.new.parts.items (into_iter_items c.each.part-iterator)
-    (omega (arith, c.each.invariant.counted, c.in-None.ensures.steps.0)) c.clear_all.ensures c.each.invariant.left
+    all_put c.args.parts.items c.each.kept.items c.clear_unless.new.parts.items (into_iter_items c.each.part-iterator) c.len-count.result
+    (omega (arith, c.each.invariant.counted, c.in-None.ensures.steps.0)) (omega (arith, c.len-count.ensures, c.args.parts.ok))
+    c.clear_unless.ensures c.each.invariant.left
