@@ -1,4 +1,4 @@
-//! Images from whose directories the later parts without an entry leave: a real littlefs never ends listing a directory with such a part.
+//! Images tidied: later parts of directories that hold no entry leave. A real littlefs never ends listing a directory with such a part.
 #![tactic(auto)]
 
 mod laws;
