@@ -21,3 +21,4 @@ pub mod FateSteps
 pub mod AttributesBetween
 pub mod IdLemmas
 pub mod ChangedPair
+mod SameParts

@@ -1,7 +1,7 @@
 -- A block written beside another, by its revision the live one.
 use Rattle.std.proofs.Common.{◌≡◌, ◌≢◌, ℕ, ◌+◌, ◌-◌, ◌%◌, ◌<◌, ◌≤◌, ◌^◌, Bool, true, false, List, length, refl, ap, sym, ◌∙◌}
-use Rattle.std.proofs.Common.{arith, Option, Some, None, suc}
-use Rattle.std.specs.Prelude.{option_and_then, option_map, replicate, All}
+use Rattle.std.proofs.Common.{arith, Option, Some, None}
+use Rattle.std.specs.Prelude.{option_and_then, option_map, All}
 use Rattle.std.specs.List.{AllByRecursion}
 use Rattle.std.proofs.lemmas.List.Elements.{recursion_from_All}
 use Rattle.lfs_block.specs.Disk.{Disk, IsDisk, block_of, put}
@@ -63,19 +63,41 @@ later new other ts a b other_is new_is order here =
     ap (λ (t : Bool). option_map (λ log. log.tags) (live_log (live_when t (committed_log other) (committed_log new)))) after
     ∙ second-tags (committed_log new) (first_or (committed_log other) Neither) ts here
 
-erased-revision : (size : ℕ) → 4 ≤ size → revision (replicate size 0xff) ≡ 0xffffffff
-erased-revision size h =
-    let split : size ≡ suc (suc (suc (suc (size - 4)))) = omega arith in
-    rw split refl
+-- of two logs the one that is there is taken
+alone-first : (late : Bool) (one two : Option LogSeen) (ts : List Item) → option_map (λ log. log.tags) one ≡ Some ts
+    → option_map (λ log. log.tags) two ≡ None → option_map (λ log. log.tags) (live_log (live_when late one two)) ≡ Some ts
+alone-first late None two ts here none = cc
+alone-first late (Some log) (Some other) ts here none = cc
+alone-first true (Some log) None ts here none = here
+alone-first false (Some log) None ts here none = here
 
--- a new block beside an erased one, in both orders
-pub new-before_erased : (size : ℕ) (new : List ℕ) (ts : List Item) → 4 ≤ size → revision new ≡ 1 → committed new ≡ Some ts
-    → live_tags new (replicate size 0xff) ≡ Some ts
-new-before_erased size new ts h one here = not-earlier new (replicate size 0xff) ts 0xffffffff 1 (erased-revision size h) one refl here
+alone-second : (late : Bool) (one two : Option LogSeen) (ts : List Item) → option_map (λ log. log.tags) one ≡ None
+    → option_map (λ log. log.tags) two ≡ Some ts → option_map (λ log. log.tags) (live_log (live_when late one two)) ≡ Some ts
+alone-second late one None ts none here = cc
+alone-second late (Some other) (Some log) ts none here = cc
+alone-second true None (Some log) ts none here = here
+alone-second false None (Some log) ts none here = here
 
-pub new-behind_erased : (size : ℕ) (new : List ℕ) (ts : List Item) → 4 ≤ size → revision new ≡ 1 → committed new ≡ Some ts
-    → live_tags (replicate size 0xff) new ≡ Some ts
-new-behind_erased size new ts h one here = later new (replicate size 0xff) ts 0xffffffff 1 (erased-revision size h) one refl here
+alone-neither : (late : Bool) (one two : Option LogSeen) → option_map (λ log. log.tags) one ≡ None → option_map (λ log. log.tags) two ≡ None
+    → option_map (λ log. log.tags) (live_log (live_when late one two)) ≡ None
+alone-neither late (Some log) two none other = cc
+alone-neither late None (Some log) none other = cc
+alone-neither true None None none other = refl
+alone-neither false None None none other = refl
+
+-- two blocks without a commit have no live one
+pub live_neither : (first second : List ℕ) → committed first ≡ None → committed second ≡ None → live_tags first second ≡ None
+live_neither first second none other =
+    alone-neither (is_later (revision second) (revision first)) (committed_log first) (committed_log second) none other
+
+-- a block that has a commit is the live one beside one that has none, in both orders
+pub live_before : (new other : List ℕ) (ts : List Item) → committed new ≡ Some ts → committed other ≡ None → live_tags new other ≡ Some ts
+live_before new other ts here none =
+    alone-first (is_later (revision other) (revision new)) (committed_log new) (committed_log other) ts here none
+
+pub live_after : (new other : List ℕ) (ts : List Item) → committed new ≡ Some ts → committed other ≡ None → live_tags other new ≡ Some ts
+live_after new other ts here none =
+    alone-second (is_later (revision new) (revision other)) (committed_log other) (committed_log new) ts none here
 
 -- a part's tags in the live block are that part
 pub read-back : WrittenPartsReplay → WrittenPartsAreComplete → (p : StoredPart) (first second : List ℕ) → All EntryFits p.entries

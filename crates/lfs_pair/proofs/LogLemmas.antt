@@ -7,12 +7,13 @@ use Rattle.std.proofs.lemmas.List.{length-drop, length-replicate, take-append-le
 use Rattle.std.proofs.lemmas.List.Elements.{All-replicate, All-drop}
 use Rattle.std.proofs.Math.Seq.{drop-append-add}
 use Rattle.lfs_block.specs.Bytes.{IsBytes}
+use Rattle.lfs_block.proofs.PutLemmas.{IsBytes-replicate}
 use Rattle.lfs_tag.specs.Commit.{Item, Commit, IsCommit, commit_bytes}
 use Rattle.lfs_tag.specs.Log.{IsErased, IsLog, final_word, log_tags}
 use Rattle.lfs_tag.specs.LogSeen.{LogSeen, is_erased}
 use Rattle.lfs_tag.specs.Reading.{Front}
 use Rattle.lfs_tag.specs.Writing.{committed_end, commit_of, lead_at}
-use Rattle.lfs_tag.specs.Laws.{FirstCommit, LogIsRead, WrittenLength}
+use Rattle.lfs_tag.specs.Laws.{ErasedBlock, FirstCommit, LogIsRead, WrittenLength}
 use Rattle.lfs_meta.specs.LiveBlock.{committed}
 use Rattle.lfs_pair.specs.Writing.{revised, log_written}
 
@@ -57,3 +58,13 @@ written-committed first read written number size ts fits is_commit bytes =
 -- a list whose front was written whole
 pub written_complete : {A : Type 0} (len : ℕ) (now old : List A) → len ≡ length now → take len (now ++ drop (length now) old) ≡ now
 written_complete len now old e = take-append-le len now (drop (length now) old) (omega arith) ∙ take_all len now (omega arith)
+
+-- an erased block has no commit
+pub erased-uncommitted : ErasedBlock → LogIsRead → (size : ℕ) → 4 ≤ size → committed (replicate size 0xff) ≡ None
+erased-uncommitted erased read size long =
+    let block : List ℕ = replicate size 0xff in
+    let bytes : IsBytes block = IsBytes-replicate size 0xff (omega arith) in
+    let behind : IsErased (drop 4 block) = All-drop (λ b. b ≡ 255) 4 block (All-replicate (λ b. b ≡ 255) size 255 refl) in
+    let log = erased block (omega (arith, length-replicate {A = ℕ} size 255, long)) bytes behind in
+    ap (λ (f : Front). option_map (λ l. l.tags) (if nat_lt 0 (length f.commits) then Some (seen_by block f) else None))
+    (read block [] (drop 4 block) bytes log)

@@ -11,6 +11,7 @@ use Rattle.lfs_meta.specs.Entry.{StoredEntry}
 use Rattle.lfs_meta.specs.Part.{StoredPart}
 use Rattle.lfs_pair.specs.Spelling.{name_item, body_item, attribute_item, entry_tags, entries_tags, tail_tags, delta_tags, tag_item}
 use Rattle.lfs_pair.specs.Spelling.{part_tags}
+use Rattle.lfs_pair.specs.Writing.{delta_weight, part_weight, tail_weight}
 use Rattle.lfs_meta.specs.Weighing.{attributes_weight, weight_as_stored, weights}
 
 abbrev item_len : Item → ℕ
@@ -48,21 +49,22 @@ entries-len id (e ∷ es) =
       sum_by-cons weight_as_stored e es,
     )
 
-tail-len : (tail : Tail) → tags_len (tail_tags tail) ≤ 12
-tail-len End = omega arith
+tail-len : (tail : Tail) → tags_len (tail_tags tail) ≡ tail_weight tail
+tail-len End = refl
 tail-len (Soft first second) = omega arith
 tail-len (Hard first second) = omega arith
 
-either-len : (b : Bool) (t : Item) → length t.content ≡ 12 → tags_len (if b then [] else t ∷ []) ≤ 16
-either-len true t len = omega arith
+either-len : (b : Bool) (t : Item) → length t.content ≡ 12 → tags_len (if b then [] else t ∷ []) ≡ (if b then 0 else 16)
+either-len true t len = refl
 either-len false t len = omega arith
 
-pub weights-fit : (p : StoredPart) (size : ℕ) → size % 16 ≡ 0 → length p.delta ≡ 12 → weights p.entries + 40 ≤ size
+pub weights-fit : (p : StoredPart) (size : ℕ) → size % 16 ≡ 0 → length p.delta ≡ 12 → part_weight p ≤ size
     → committed_end 4 (part_tags p) ≤ size
 weights-fit p size even delta room =
     let entries : tags_len (entries_tags 0 p.entries) ≡ weights p.entries = entries-len 0 p.entries in
-    let tail : tags_len (tail_tags p.tail) ≤ 12 = tail-len p.tail in
-    let last : tags_len (delta_tags p.delta) ≤ 16 = either-len (list_all (λ b. b == 0) p.delta) (tag_item 0x7ff 0x3ff p.delta) delta in
+    let tail : tags_len (tail_tags p.tail) ≡ tail_weight p.tail = tail-len p.tail in
+    let last : tags_len (delta_tags p.delta) ≡ delta_weight p.delta =
+    either-len (list_all (λ b. b == 0) p.delta) (tag_item 0x7ff 0x3ff p.delta) delta in
     let front : tags_len (entries_tags 0 p.entries ++ tail_tags p.tail)
     ≡ tags_len (entries_tags 0 p.entries) + tags_len (tail_tags p.tail) =
     sum_by-append item_len (entries_tags 0 p.entries) (tail_tags p.tail) in
@@ -70,3 +72,16 @@ weights-fit p size even delta room =
     sum_by-append item_len (entries_tags 0 p.entries ++ tail_tags p.tail) (delta_tags p.delta) in
     let within : tags_len (part_tags p) + 12 ≤ size = omega (arith, entries, tail, last, front, all, room) in
     omega (arith, within, even)
+
+-- no tail and no delta take more than this
+tail-most : (tail : Tail) → tail_weight tail ≤ 12
+tail-most End = omega arith
+tail-most (Soft first second) = omega arith
+tail-most (Hard first second) = omega arith
+
+either-most : (b : Bool) → (if b then 0 else 16) ≤ 16
+either-most true = omega arith
+either-most false = omega arith
+
+pub weights-most : (p : StoredPart) (size : ℕ) → weights p.entries + 40 ≤ size → part_weight p ≤ size
+weights-most p size room = omega (arith, room, tail-most p.tail, either-most (list_all (λ b. b == 0) p.delta))

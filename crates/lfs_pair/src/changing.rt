@@ -1,6 +1,7 @@
 //! A pair carried to another part.
 
 ghost use Rattle.std.specs.Prelude.{◌≡◌, ◌≢◌, ◌+◌, ◌<◌, ◌≤◌, length, Some, None, option_map, All, IfOk, IfSome, IfNone};
+ghost use Rattle.std.specs.Bool.{OnTrue};
 ghost use Rattle.std.specs.List.{AllByRecursion};
 ghost use Rattle.lfs_meta.specs.Fits.{EntryFits, TailFits};
 ghost use Rattle.lfs_meta.specs.LiveBlock.{stored_part_of};
@@ -33,6 +34,7 @@ pub fn held_part<B: Blocks>(
     requires second { pair.1 < (B.disk blocks.now).count }
     ensures held { IfOk result (λ found. option_map (λ part. part.1) found ≡ stored_part_of (B.disk blocks.now) pair) }
     ensures fit { IfOk result (λ found. IfSome found (λ part. All EntryFits part.1.entries)) }
+    ensures complete { IfOk result (λ found. IfSome found (λ part. AllByRecursion IsComplete part.1.entries)) }
 {
     unread_pairs_hold_no_part();
     match read_pair(alloc, blocks, pair) {
@@ -41,6 +43,46 @@ pub fn held_part<B: Blocks>(
             MountFault::Memory => Err(AllocError),
             _ => Ok(None),
         },
+    }
+}
+
+/// Whether two parts are the same: whether no tag carries one to the other. Takes memory.
+fn are_same(alloc: Global, old: &Part, new: &Part) -> Result<bool, AllocError>
+    requires fit { All EntryFits old.now.1.entries }
+    requires old { AllByRecursion IsComplete old.now.1.entries }
+    requires new { AllByRecursion IsComplete new.now.1.entries }
+    requires few { length new.now.1.entries ≤ most_entries }
+    requires tail { TailFits new.now.1.tail }
+    ensures { IfOk result (λ same. OnTrue same (old.now.1 ≡ new.now.1)) }
+{
+    parts_become_others();
+    written_parts_replay();
+    if old.entries.len() > MOST_NAMED {
+        return Ok(false);
+    }
+    let edits = part_between(
+        alloc,
+        Forced::Nothing,
+        old,
+        &new.entries,
+        new.tail,
+        &new.delta,
+    )?;
+    Ok(edits.is_empty())
+}
+
+/// Whether the pair of a part holds that part. Takes memory.
+pub fn holds_part<B: Blocks>(alloc: Global, blocks: &B, part: &Part) -> Result<bool, AllocError>
+    requires first { part.now.0.0 < (B.disk blocks.now).count }
+    requires second { part.now.0.1 < (B.disk blocks.now).count }
+    requires complete { AllByRecursion IsComplete part.now.1.entries }
+    requires few { length part.now.1.entries ≤ most_entries }
+    requires tail { TailFits part.now.1.tail }
+    ensures { IfOk result (λ holds. OnTrue holds (stored_part_of (B.disk blocks.now) part.now.0 ≡ Some part.now.1)) }
+{
+    match held_part(alloc, blocks, part.pair)? {
+        Some(old) => are_same(alloc, &old, part),
+        None => Ok(false),
     }
 }
 

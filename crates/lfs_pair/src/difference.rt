@@ -78,6 +78,7 @@ pub(crate) fn part_between<'a>(
     ensures tags { IfOk result (λ edits. items edits.items
         ≡ part_between (forced_seen forced.entry) old.now.1 (stored_part entries.now tail delta.now)) }
     ensures fits { OnOk result (All EntryFits entries.now) }
+    ensures twelve { length delta.now ≡ 12 }
 {
     entries_fit(entries);
     let mut edits = Vec::new(alloc);

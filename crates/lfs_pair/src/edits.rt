@@ -161,7 +161,7 @@ fn push_tail(edits: &mut Vec<Edit<'_>>, tail: Tail) -> Result<(), AllocError>
 }
 
 /// Whether each byte is zero.
-fn is_zero(bytes: &[u8]) -> bool
+pub(crate) fn is_zero(bytes: &[u8]) -> bool
     ensures { result ≡ list_all (λ b. b == 0) bytes.now }
 {
     bytes.iter().all(|byte| *byte == 0)

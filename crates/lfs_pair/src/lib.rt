@@ -16,8 +16,8 @@ mod laws;
 mod writing;
 
 pub use appending::append;
-pub use changing::{change_pair, held_part};
+pub use changing::{change_pair, held_part, holds_part};
 pub use forced::Forced;
 pub use laws::{parts_become_others, written_parts_replay};
 pub use lfs_tag::{Edit, EditData, Tag};
-pub use writing::{block_with, first_block, rewrite};
+pub use writing::{block_with, first_block, part_block, part_weight, rewrite};

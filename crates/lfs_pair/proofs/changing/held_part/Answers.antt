@@ -12,10 +12,11 @@ returns-in_default g c =
           sym (c.unread_pairs_hold_no_part.ensures c.in-Err.fault d c.args.pair
           (has-cause c.in-Err.fault d c.args.pair c.in-Err.ensures.refused c.in_default.not-Memory));
       fit = tt;
+      complete = tt;
     }
 
 pub returns-in-Ok : goal.returns-in-Ok
-returns-in-Ok g c = record { held = sym c.in-Ok.ensures.found; fit = c.in-Ok.ensures.fit }
+returns-in-Ok g c = record { held = sym c.in-Ok.ensures.found; fit = c.in-Ok.ensures.fit; complete = c.in-Ok.ensures.complete }
 
 pub returns-in-Memory : goal.returns-in-Memory
-returns-in-Memory g c = record { held = tt; fit = tt }
+returns-in-Memory g c = record { held = tt; fit = tt; complete = tt }
