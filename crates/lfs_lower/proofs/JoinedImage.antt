@@ -1,5 +1,5 @@
 -- An image whose superblocks' pairs hold their parts with one superblock.
-use Rattle.std.proofs.Common.{◌≡◌, inl, inr, ℕ, ◌+◌, ◌≤◌, Bool, true, false, List, [], ◌∷◌, map, Option, Some, None, refl, ap, sym, ◌∙◌, subst, arith}
+use Rattle.std.proofs.Common.{◌≡◌, ◌⊎◌, inl, inr, ℕ, ◌+◌, ◌≤◌, Bool, true, false, List, [], ◌∷◌, map, Option, Some, None, refl, ap, sym, ◌∙◌, subst, arith}
 use Rattle.std.specs.Prelude.{All, Contains, ◌&&◌, option_map}
 use Rattle.std.specs.List.{list_all}
 use Rattle.std.proofs.lemmas.Bool.Decides.{nat_tests}
@@ -17,6 +17,7 @@ use Rattle.lfs_fs.specs.Front.{pair_names, pairs_name}
 use Rattle.lfs_fs.specs.Gathering.{PairPart}
 use Rattle.lfs_fs.specs.Reading.{Reading, reading_of}
 use Rattle.lfs_fs.proofs.ContainsLemmas.{contains_cases, contains_first, contains_later, contains_mapped, contains_none}
+use Rattle.lfs_lower.specs.Alone.{IsAlone, IsSame}
 use Rattle.lfs_lower.specs.Joined.{IsJoinedImage}
 use Rattle.lfs_lower.specs.Joining.{AreSuperblockParts, ArePartsPut, CanPut, led_parts, parts_held, stripped}
 use Rattle.lfs_lower.specs.OneSuperblock.{all_can, can_be_put, can_join, joined_of_superblocks, last_superblock, lead, one_superblock, part_joined, superblock_pairs}
@@ -158,10 +159,10 @@ can_put_all d parts is complete can =
 abbrev pub can_be_joined : Disk → Bool
 can_be_joined d = can_join (reading_of d) (superblock_pairs (reading_of d)) (last_superblock (reading_of d))
 
-held_by : (d e : Disk) (p : Pair) (o : Option StoredPart) → PartsDependOnTheirBlocks → ArePartsPut d e (parts_to_be d)
-    → can_be_joined d ≡ true → Contains (superblock_pairs (reading_of d)) p → (reading_of d).part p ≡ o
-    → stored_part_of e p ≡ (one_superblock (reading_of d)).part p
-held_by d e p None depend put can there read =
+-- the blocks of a pair that holds no part stay
+unread_same : (d e : Disk) (p : Pair) → ArePartsPut d e (parts_to_be d) → Contains (superblock_pairs (reading_of d)) p
+    → (reading_of d).part p ≡ None → IsSame d e p
+unread_same d e p put there read =
     let r = reading_of d in
     let pairs = superblock_pairs r in
     let fresh = pairs_fresh d in
@@ -171,17 +172,34 @@ held_by d e p None depend put can there read =
     let second_free = unheld_named r p.1 p pairs read there in
     let first_same = ap (pairs_name p.0) (same_pairs pairs (last_superblock r) (parts_held r pairs)) in
     let second_same = ap (pairs_name p.1) (same_pairs pairs (last_superblock r) (parts_held r pairs)) in
-    let first = put.others p.0 (grind (arith, nat_tests)) in
-    let second = put.others p.1 (grind (arith, nat_tests)) in
-    (depend e d p (first, second)).2 ∙ rw read refl
+    (put.others p.0 (grind (arith, nat_tests)), put.others p.1 (grind (arith, nat_tests)))
+
+-- a pair that holds a part is one of those that are to be
+to_be_in : (d : Disk) (p : Pair) (s : StoredPart) → Contains (superblock_pairs (reading_of d)) p → (reading_of d).part p ≡ Some s
+    → Contains (parts_to_be d) (joined_part (superblock_pairs (reading_of d)) (last_superblock (reading_of d)) (p, s))
+to_be_in d p s there read =
+    let r = reading_of d in
+    let pairs = superblock_pairs r in
+    contains_mapped (joined_part pairs (last_superblock r)) (parts_held r pairs) (p, s) (part_in r p s pairs read there)
+
+held_by : (d e : Disk) (p : Pair) (o : Option StoredPart) → PartsDependOnTheirBlocks → ArePartsPut d e (parts_to_be d)
+    → can_be_joined d ≡ true → Contains (superblock_pairs (reading_of d)) p → (reading_of d).part p ≡ o
+    → stored_part_of e p ≡ (one_superblock (reading_of d)).part p
+held_by d e p None depend put can there read = (depend e d p (unread_same d e p put there read)).2 ∙ rw read refl
 held_by d e p (Some s) depend put can there read =
     let r = reading_of d in
     let pairs = superblock_pairs r in
     let last = last_superblock r in
-    let in' = contains_mapped (joined_part pairs last) (parts_held r pairs) (p, s) (part_in r p s pairs read there) in
-    put.held (joined_part pairs last (p, s)) in'
+    put.held (joined_part pairs last (p, s)) (to_be_in d p s there read)
     ∙ ap (λ (t : Bool). Some (part_joined t pairs last p s)) (sym can)
     ∙ ap (option_map (part_joined (can_be_joined d) pairs last p)) (sym read)
+
+alone_by : (d e : Disk) (p : Pair) (o : Option StoredPart) → ArePartsPut d e (parts_to_be d) → Contains (superblock_pairs (reading_of d)) p
+    → (reading_of d).part p ≡ o → IsSame d e p ⊎ IsAlone e p
+alone_by d e p None put there read = inl (unread_same d e p put there read)
+alone_by d e p (Some s) put there read =
+    let r = reading_of d in
+    put.alone (joined_part (superblock_pairs r) (last_superblock r) (p, s)) (to_be_in d p s there read)
 
 -- where all can be, and their pairs hold them, it is joined_of_superblocks
 joined_is : (d e : Disk) → PartsDependOnTheirBlocks → ArePartsPut d e (parts_to_be d) → can_be_joined d ≡ true → IsJoinedImage d e
@@ -190,6 +208,7 @@ joined_is d e depend put can = record {
   size = put.size;
   count = put.count;
   held = λ p there. held_by d e p ((reading_of d).part p) depend put can there refl;
+  alone = λ p there. alone_by d e p ((reading_of d).part p) put there refl;
   others = λ b none. put.others b (let fewer = to_be_named d b in omega arith);
 }
 
@@ -210,6 +229,7 @@ stays_is d is can = record {
   size = refl;
   count = refl;
   held = λ p there. stays_by d p ((reading_of d).part p) can refl;
+  alone = λ p there. inl (refl, refl);
   others = λ b none. refl;
 }
 

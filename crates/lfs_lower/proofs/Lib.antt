@@ -1,3 +1,4 @@
+pub mod AloneBlocks
 pub mod BeginningLemmas
 pub mod ChainsOutside
 pub mod FreshPairs
@@ -9,6 +10,7 @@ pub mod JoinedParts
 pub mod JoinedComplete
 pub mod KeptLemmas
 pub mod KeptTags
+mod LaterLive
 pub mod LaterPart
 pub mod LaterSteps
 pub mod LongestFronts

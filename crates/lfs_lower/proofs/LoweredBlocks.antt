@@ -22,7 +22,7 @@ blocks_read laws in_root block bytes complete =
 -- ---- the live block
 
 -- the tags of the live one of two logs
-live-is : (late : Bool) (one two : Option LogSeen)
+pub live-is : (late : Bool) (one two : Option LogSeen)
     → option_map (λ log. log.tags) (live_log (live_when late one two))
     ≡ live_by late (option_map (λ log. log.tags) one) (option_map (λ log. log.tags) two)
 live-is true None None = refl

@@ -1,21 +1,24 @@
 -- Blocks lowered, and what lowered pairs hold.
-use Rattle.std.proofs.Common.{◌≡◌, ℕ, ◌<◌, List, length, Option, refl, sym, ap, subst, ◌∙◌}
-use Rattle.std.specs.Prelude.{option_and_then}
+use Rattle.std.proofs.Common.{◌≡◌, inl, inr, ℕ, ◌<◌, Bool, List, length, Option, Some, None, refl, sym, ap, subst, ◌∙◌, arith}
 use Rattle.lfs_block.specs.Bytes.{IsBytes}
-use Rattle.lfs_block.specs.Disk.{Disk, IsDisk, block_of, put}
+use Rattle.lfs_block.specs.Disk.{Disk, IsDisk, block_of, erased_block, put}
 use Rattle.lfs_block.specs.Geometry.{IsBlockSize}
 use Rattle.lfs_block.specs.PatchLaws.{BlockPut, BlockPutOther, PutIsDisk}
 use Rattle.lfs_block.proofs.BlockLens.{length-block}
 use Rattle.lfs_tag.specs.Commit.{Item}
+use Rattle.lfs_tag.specs.Laws.{ErasedBlock, LogIsRead}
 use Rattle.lfs_meta.specs.Body.{Pair}
-use Rattle.lfs_meta.specs.LiveBlock.{live_tags, stored_part_of}
-use Rattle.lfs_meta.specs.Replay.{replay}
-use Rattle.lfs_meta.specs.Complete.{complete_part}
+use Rattle.lfs_meta.specs.LiveBlock.{committed, committed_log, is_later, live_tags, revision, stored_part_of}
 use Rattle.lfs_meta.proofs.HeldPartLemmas.{block_bytes}
-use Rattle.lfs_lower.specs.LaterReading.{later_part_of}
+use Rattle.lfs_pair.proofs.LiveAfter.{live_after, live_before, live_neither}
+use Rattle.lfs_pair.proofs.LogLemmas.{erased-uncommitted}
+use Rattle.lfs_lower.specs.Alone.{IsPlain, IsSame, IsWrittenAlone}
+use Rattle.lfs_lower.specs.LaterReading.{later_part_of, live_by}
 use Rattle.lfs_lower.specs.Laws.{LivesAreRead, LoweredBlocksAreRead}
-use Rattle.lfs_lower.specs.Lowered.{IsBlockLowered}
-use Rattle.lfs_lower.specs.Spelled.{is_root_block, lowered_block}
+use Rattle.lfs_lower.specs.Lowered.{IsBlockLowered, IsLaterLive, IsPairLowered}
+use Rattle.lfs_lower.specs.Spelled.{is_root_block, lowered_block, lowered_tags}
+use Rattle.lfs_lower.proofs.LoweredBlocks.{live-is}
+use Rattle.lfs_lower.proofs.AloneBlocks.{alone_by, held_by, others_by, part_by}
 
 -- ---- a block
 
@@ -44,21 +47,80 @@ block_lowered read this others puts d e n new disk within is put_is =
 
 -- ---- a pair
 
+-- the tags of two blocks, as version 2.1 reads those of a pair
+abbrev later_by : Pair → List ℕ → List ℕ → Option (List Item)
+later_by p first second =
+    live_by (is_later (revision second) (revision first)) (lowered_tags (is_root_block p.0) first) (lowered_tags (is_root_block p.1) second)
+
 -- what the lowered blocks of a pair hold
 pub lowered_tags_of : LivesAreRead → (d : Disk) (pair : Pair) → IsDisk d → pair.0 < d.count → pair.1 < d.count
-    → option_and_then complete_part (option_and_then replay (live_tags (lowered_block (is_root_block pair.0) (block_of d pair.0))
-    (lowered_block (is_root_block pair.1) (block_of d pair.1)))) ≡ later_part_of d pair
+    → part_by (live_tags (lowered_block (is_root_block pair.0) (block_of d pair.0)) (lowered_block (is_root_block pair.1) (block_of d pair.1)))
+    ≡ later_part_of d pair
 lowered_tags_of lives d pair disk first second =
-    ap (λ (o : Option (List Item)). option_and_then complete_part (option_and_then replay o))
+    ap part_by
     (lives (is_root_block pair.0) (is_root_block pair.1) (block_of d pair.0) (block_of d pair.1) (block_bytes d pair.0 disk)
     (block_bytes d pair.1 disk) (block_fits d pair.0 disk first) (block_fits d pair.1 disk second))
+
+-- what version 2.1 reads of a pair depends on its two blocks alone
+pub later_same : (d e : Disk) (p : Pair) → IsSame d e p → later_part_of e p ≡ later_part_of d p
+later_same d e p same =
+    ap (λ (b : List ℕ). part_by (later_by p b (block_of e p.1))) same.0 ∙ ap (λ (b : List ℕ). part_by (later_by p (block_of d p.0) b)) same.1
 
 -- what a lowered pair holds
 pub lowered_part : LivesAreRead → (d f : Disk) (pair : Pair) → IsDisk d → pair.0 < d.count → pair.1 < d.count
     → block_of f pair.0 ≡ lowered_block (is_root_block pair.0) (block_of d pair.0)
     → block_of f pair.1 ≡ lowered_block (is_root_block pair.1) (block_of d pair.1) → stored_part_of f pair ≡ later_part_of d pair
 lowered_part lives d f pair disk first_within second_within first second =
-    ap (λ (b : List ℕ). option_and_then complete_part (option_and_then replay (live_tags b (block_of f pair.1)))) first
-    ∙ ap (λ (b : List ℕ). option_and_then complete_part (option_and_then replay
-    (live_tags (lowered_block (is_root_block pair.0) (block_of d pair.0)) b))) second
+    ap (λ (b : List ℕ). part_by (live_tags b (block_of f pair.1))) first
+    ∙ ap (λ (b : List ℕ). part_by (live_tags (lowered_block (is_root_block pair.0) (block_of d pair.0)) b)) second
     ∙ lowered_tags_of lives d pair disk first_within second_within
+
+-- ---- a pair with one block
+
+-- of two blocks, one of which has no commit, the tags of the other are read, in both orders
+first_of : (tags : Option (List Item)) (new other : List ℕ) → committed new ≡ tags → committed other ≡ None → live_tags new other ≡ tags
+first_of None new other here none = live_neither new other here none
+first_of (Some ts) new other here none = live_before new other ts here none
+
+second_of : (tags : Option (List Item)) (new other : List ℕ) → committed new ≡ tags → committed other ≡ None → live_tags other new ≡ tags
+second_of None new other here none = live_neither other new none here
+second_of (Some ts) new other here none = live_after new other ts here none
+
+-- the live block lowered, beside an erased one, is what version 2.1 reads of the pair
+pub alone_lowered : LoweredBlocksAreRead → ErasedBlock → LogIsRead → (d e : Disk) (pair : Pair) (live beside : ℕ) → IsDisk d → live < d.count
+    → IsLaterLive d pair live beside → IsWrittenAlone d e live beside (lowered_block (is_root_block live) (block_of d live))
+    → IsPairLowered d e pair
+alone_lowered read erased log d e pair live beside disk within is written =
+    let block : List ℕ = lowered_block (is_root_block live) (block_of d live) in
+    let tags : Option (List Item) = lowered_tags (is_root_block live) (block_of d live) in
+    let here : committed block ≡ tags = (read (is_root_block live) (block_of d live) (block_bytes d live disk) (block_fits d live disk within)).held in
+    let none = erased-uncommitted erased log d.size (omega (arith, disk.geometry.size_fits.0)) in
+    let same : part_by tags ≡ later_part_of d pair = ap part_by (sym is.tags) in
+    record {
+      disk = written.disk;
+      size = written.size;
+      count = written.count;
+      held = held_by d e pair live beside block (later_part_of d pair) is.of written
+          (ap part_by (first_of tags block (erased_block d.size) here none) ∙ same)
+          (ap part_by (second_of tags block (erased_block d.size) here none) ∙ same);
+      alone = inr (alone_by d e pair live beside block is.of written);
+      others = others_by d e pair live beside block is.of written;
+    }
+
+-- a pair of which both versions read the same
+pub plain_lowered : (d : Disk) (pair : Pair) → IsDisk d → IsPlain d pair.0 → IsPlain d pair.1 → IsPairLowered d d pair
+plain_lowered d pair disk first second = record {
+  disk = disk;
+  size = refl;
+  count = refl;
+  held =
+      let one : List ℕ = block_of d pair.0 in
+      let other : List ℕ = block_of d pair.1 in
+      let late : Bool = is_later (revision other) (revision one) in
+      ap part_by
+      (live-is late (committed_log one) (committed_log other)
+      ∙ ap (λ (o : Option (List Item)). live_by late o (committed other)) (sym first)
+      ∙ ap (live_by late (lowered_tags (is_root_block pair.0) one)) (sym second));
+  alone = inl (record { first_plain = first; second_plain = second; same = (refl, refl) });
+  others = λ b not_first not_second. refl;
+}

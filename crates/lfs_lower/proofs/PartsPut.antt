@@ -5,51 +5,35 @@ use Rattle.std.proofs.lemmas.Bool.Decides.{nat_tests}
 use Rattle.std.proofs.lemmas.List.{take-map, take_more}
 use Rattle.std.proofs.lemmas.List.Elements.{Contains-push_cases}
 use Rattle.std.proofs.lemmas.List.Sums.{sum_by-cons, sum_by-take-le}
-use Rattle.lfs_block.specs.Bytes.{IsBytes}
-use Rattle.lfs_block.specs.Disk.{Disk, IsDisk, block_of, put}
-use Rattle.lfs_block.specs.PatchLaws.{BlockPutOther, PutIsDisk}
+use Rattle.lfs_block.specs.Disk.{Disk, IsDisk, erased_block}
 use Rattle.lfs_meta.specs.Body.{Pair}
 use Rattle.lfs_meta.specs.Laws.{PartsDependOnTheirBlocks}
-use Rattle.lfs_meta.specs.LiveBlock.{live_block, stored_part_of}
-use Rattle.lfs_meta.specs.declared.live_block.LiveBlock.{LiveBlock}
-use Rattle.lfs_meta.specs.declared.live_block.LiveBlock.TheVariants.{First, Second, Neither}
-use Rattle.lfs_pair.specs.Writing.{IsRewritten, other_than}
+use Rattle.lfs_meta.specs.LiveBlock.{stored_part_of}
+use Rattle.lfs_pair.specs.Writing.{IsPartBlock}
 use Rattle.lfs_fs.specs.Front.{pair_names, pairs_name}
 use Rattle.lfs_fs.specs.Gathering.{PairPart}
 use Rattle.lfs_fs.proofs.ContainsLemmas.{contains_cases, contains_none}
-use Rattle.lfs_lower.specs.Joining.{ArePartsPut, CanPut, IsPartPut}
+use Rattle.lfs_lower.specs.Alone.{AreOf, IsAlone, IsSame, IsWrittenAlone}
+use Rattle.lfs_lower.specs.Joining.{ArePartsPut, IsPartPut}
+use Rattle.lfs_lower.proofs.AloneBlocks.{alone_by, held_by, others_by}
 
 -- ---- one pair
 
-other_is : (live : LiveBlock) (pair : Pair) → (other_than live pair ≡ pair.0) ⊎ (other_than live pair ≡ pair.1)
-other_is (First log) pair = inr refl
-other_is (Second log) pair = inl refl
-other_is Neither pair = inr refl
+pub part_put : (d e : Disk) (p : PairPart) (live beside number : ℕ) (block : List ℕ) → AreOf p.0 live beside → IsPartBlock d.size number p.1 block
+    → IsWrittenAlone d e live beside block → IsPartPut d e p
+part_put d e p live beside number block of h written = record {
+  disk = written.disk;
+  size = written.size;
+  count = written.count;
+  held = held_by d e p.0 live beside block (Some p.1) of written h.before_erased h.behind_erased;
+  alone = inr (alone_by d e p.0 live beside block of written);
+  others = others_by d e p.0 live beside block of written;
+}
 
--- the block that is written is one of the pair's
-written_is : (d : Disk) (p : PairPart) (n : ℕ) (block : List ℕ) → IsRewritten d p.0 p.1 n block → (n ≡ p.0.0) ⊎ (n ≡ p.0.1)
-written_is d p n block h =
-    elim (other_is (live_block (block_of d p.0.0) (block_of d p.0.1)) p.0) [ inl is ↦ inl (h.number ∙ is) | inr is ↦ inr (h.number ∙ is) ]
-
-written_within : (d : Disk) (p : PairPart) (n : ℕ) (block : List ℕ) → CanPut d p → IsRewritten d p.0 p.1 n block → n < d.count
-written_within d p n block can h =
-    let first = can.first in
-    let second = can.second in
-    elim (written_is d p n block h) [ inl is ↦ omega arith | inr is ↦ omega arith ]
-
-pub part_put : (d : Disk) (p : PairPart) (n : ℕ) (block : List ℕ) → BlockPutOther → PutIsDisk → IsDisk d → CanPut d p
-    → IsRewritten d p.0 p.1 n block → IsBytes block → IsPartPut d (put n block d) p
-part_put d p n block others disk is can h bytes =
-    let within = written_within d p n block can h in
-    let at = written_is d p n block h in
-    record {
-      disk = disk d n block is within h.len bytes;
-      size = refl;
-      count = refl;
-      held = h.reads_back;
-      others = λ b first second. others d n b block is within
-          (elim at [ inl same ↦ (λ e. first (e ∙ same)) | inr same ↦ (λ e. second (e ∙ same)) ]) h.len;
-    }
+-- a pair that holds its part stays
+pub part_stays : (d : Disk) (p : PairPart) → IsDisk d → stored_part_of d p.0 ≡ Some p.1 → IsPartPut d d p
+part_stays d p disk held =
+    record { disk = disk; size = refl; count = refl; held = held; alone = inl (refl, refl); others = λ b first second. refl }
 
 -- ---- one pair more
 
@@ -84,9 +68,9 @@ not_named b p none = (grind (arith, nat_tests), grind (arith, nat_tests))
 
 module _ (depend : PartsDependOnTheirBlocks) (d e f : Disk) (ps : List PairPart) (p : PairPart) (old : ArePartsPut d e ps)
     (new : IsPartPut e f p) (once : (b : ℕ) → pairs_name b (pairs_in (ps ++ p ∷ [])) ≤ 1) where
-  -- a pair that holds its part goes on holding it
-  still_held : (q : PairPart) → Contains ps q → stored_part_of f q.0 ≡ Some q.1
-  still_held q there =
+  -- the blocks of those before stay
+  still_same : (q : PairPart) → Contains ps q → IsSame e f q.0
+  still_same q there =
       let first_most = once q.0.0 in
       let second_most = once q.0.1 in
       let first_in = pair_in q.0.0 ps q there in
@@ -95,7 +79,29 @@ module _ (depend : PartsDependOnTheirBlocks) (d e f : Disk) (ps : List PairPart)
       let second_there = names_second q.0 in
       let first = not_named q.0.0 p.0 (omega (arith, pairs_in_more q.0.0 ps p)) in
       let second = not_named q.0.1 p.0 (omega (arith, pairs_in_more q.0.1 ps p)) in
-      (depend f e q.0 (new.others q.0.0 first.0 first.1, new.others q.0.1 second.0 second.1)).2 ∙ old.held q there
+      (new.others q.0.0 first.0 first.1, new.others q.0.1 second.0 second.1)
+
+  -- a pair that holds its part goes on holding it
+  still_held : (q : PairPart) → Contains ps q → stored_part_of f q.0 ≡ Some q.1
+  still_held q there = (depend f e q.0 (still_same q there)).2 ∙ old.held q there
+
+  still_alone : (q : PairPart) → Contains ps q → IsSame d f q.0 ⊎ IsAlone f q.0
+  still_alone q there =
+      let same = still_same q there in
+      elim (old.alone q there) [
+        | inl is ↦ inl (same.0 ∙ is.0, same.1 ∙ is.1)
+        | inr (inl is) ↦ inr (inl (same.0 ∙ is ∙ ap erased_block (sym new.size)))
+        | inr (inr is) ↦ inr (inr (same.1 ∙ is ∙ ap erased_block (sym new.size)))
+      ]
+
+  -- its blocks are the same in both, unless the pair is the new one
+  new_alone : IsSame d f p.0 ⊎ IsAlone f p.0
+  new_alone =
+      let before = λ (b : ℕ) (named : 1 ≤ pair_names b p.0). old.others b (omega (arith, pairs_in_more b ps p, once b, named)) in
+      elim new.alone [
+        | inl is ↦ inl (is.0 ∙ before p.0.0 (names_first p.0), is.1 ∙ before p.0.1 (names_second p.0))
+        | inr is ↦ inr is
+      ]
 
   parts_put_more : ArePartsPut d f (ps ++ p ∷ [])
   parts_put_more = record {
@@ -105,6 +111,10 @@ module _ (depend : PartsDependOnTheirBlocks) (d e f : Disk) (ps : List PairPart)
     held = λ q there. elim (Contains-push_cases ps p q there) [
       | inl earlier ↦ still_held q earlier
       | inr is ↦ subst (λ (x : PairPart). stored_part_of f x.0 ≡ Some x.1) is new.held
+    ];
+    alone = λ q there. elim (Contains-push_cases ps p q there) [
+      | inl earlier ↦ still_alone q earlier
+      | inr is ↦ subst (λ (x : PairPart). IsSame d f x.0 ⊎ IsAlone f x.0) is new_alone
     ];
     others = λ b none.
         let free = not_named b p.0 (omega (arith, pairs_in_more b ps p)) in

@@ -1,11 +1,9 @@
 -- A block that is spelled for version 2.0, read back.
 use Rattle.std.proofs.Common.{◌≡◌, ℕ, ◌+◌, ◌-◌, ◌^◌, ◌<◌, ◌≤◌, List, [], ◌∷◌, ◌++◌, length, take, drop}
-use Rattle.std.proofs.Common.{Option, Some, None, option_map, refl, ap, ◌∙◌, arith, bit_xor, nat_lt}
-use Rattle.std.specs.Prelude.{if◌then◌else◌}
+use Rattle.std.proofs.Common.{Option, Some, None, refl, ap, ◌∙◌, arith, bit_xor}
 use Rattle.std.specs.Int.{w32, from_le_bytes, to_le_bytes, to_be_bytes}
 use Rattle.std.specs.List.{AllByRecursion}
 use Rattle.std.proofs.lemmas.List.{take_at, length-append, length-drop, length-replicate}
-use Rattle.std.proofs.lemmas.List.Elements.{All-replicate, All-drop}
 use Rattle.std.proofs.lemmas.Nat.{from_le_bytes-to_le_bytes_4}
 use Rattle.lfs_block.specs.Bytes.{IsBytes}
 use Rattle.lfs_block.specs.Checksum.{crc}
@@ -14,13 +12,11 @@ use Rattle.lfs_block.specs.Geometry.{IsBlockSize}
 use Rattle.lfs_block.proofs.PutLemmas.{IsBytes-append, IsBytes-drop, IsBytes-take, IsBytes-replicate}
 use Rattle.lfs_tag.specs.Commit.{Item, Commit, IsItem, tags_bytes, last_word, covered_bytes, commit_bytes}
 use Rattle.lfs_tag.specs.Laws.{ErasedBlock, FirstCommit, LogIsRead, WrittenLength}
-use Rattle.lfs_tag.specs.Log.{IsErased}
-use Rattle.lfs_tag.specs.Reading.{Front}
 use Rattle.lfs_tag.specs.Writing.{tags_len, committed_end, commit_of, lead_at}
 use Rattle.lfs_tag.proofs.Puts.{put_at-len, before-put_at, commit_of-valid}
 use Rattle.lfs_meta.specs.LiveBlock.{committed, revision}
 use Rattle.lfs_pair.specs.Writing.{revised, log_written}
-use Rattle.lfs_pair.proofs.LogLemmas.{seen_by, written-committed}
+use Rattle.lfs_pair.proofs.LogLemmas.{erased-uncommitted, written-committed}
 use Rattle.lfs_lower.specs.Spelled.{spelled}
 use Rattle.lfs_lower.proofs.KeptTags.{IsSaid, AreKeptIf, IsBytes-low, IsBytes-high}
 
@@ -55,16 +51,6 @@ IsBytes-erased size = IsBytes-replicate size 0xff (omega arith)
 
 IsBytes-revised : (number : ℕ) (block : List ℕ) → IsBytes block → IsBytes (revised number block)
 IsBytes-revised number block h = IsBytes-append (to_le_bytes w32 number) (drop 4 block) (IsBytes-low 0 4 number) (IsBytes-drop 4 block h)
-
--- ---- the erased block
-
-erased-uncommitted : ErasedBlock → LogIsRead → (size : ℕ) → 4 ≤ size → committed (erased_block size) ≡ None
-erased-uncommitted erased read size long =
-    let block : List ℕ = erased_block size in
-    let behind : IsErased (drop 4 block) = All-drop (λ b. b ≡ 255) 4 block (All-replicate (λ b. b ≡ 255) size 255 refl) in
-    let log = erased block (omega (arith, length-replicate {A = ℕ} size 255, long)) (IsBytes-erased size) behind in
-    ap (λ (f : Front). option_map (λ l. l.tags) (if nat_lt 0 (length f.commits) then Some (seen_by block f) else None))
-    (read block [] (drop 4 block) (IsBytes-erased size) log)
 
 -- ---- blocks
 

@@ -1,15 +1,19 @@
 -- The parts of the pairs of superblocks, as they are gathered (own).
-use Rattle.std.specs.Prelude.{ℕ, ◌≡◌, ◌≢◌, ◌<◌, ◌≤◌, Bool, true, false, Contains, map, Some, None, List, [], ◌∷◌, ◌++◌, length, flat_map, Option, option_map, option_to_list, All}
+use Rattle.std.specs.Prelude.{ℕ, ◌≡◌, ◌≢◌, ◌<◌, ◌≤◌, ◌⊎◌, Bool, true, false, Contains, map, Some, None, List, [], ◌∷◌, ◌++◌, length, flat_map, Option, option_map, option_to_list, All}
 use Rattle.std.specs.List.{AllByRecursion}
 use Rattle.lfs_block.specs.Disk.{Disk, IsDisk, block_of}
 use Rattle.lfs_meta.specs.Body.{Pair}
 use Rattle.lfs_meta.specs.LiveBlock.{stored_part_of}
 use Rattle.lfs_meta.specs.Entry.{StoredEntry}
 use Rattle.lfs_meta.specs.Complete.{IsComplete}
+use Rattle.lfs_pair.specs.Appending.{live_number}
+use Rattle.lfs_pair.specs.Writing.{live_revision, other_number}
 use Rattle.lfs_fs.specs.Front.{pairs_name}
 use Rattle.lfs_fs.specs.Gathering.{PairPart}
 use Rattle.lfs_fs.specs.Reading.{Reading, reading_of}
 use Rattle.lfs_fs.specs.Used.{Marks, unmarked}
+use Rattle.lfs_lower.specs.declared.putting.PairPlaces.{PairPlaces}
+use Rattle.lfs_lower.specs.Alone.{IsAlone, IsSame}
 use Rattle.lfs_lower.specs.OneSuperblock.{behind_superblock, can_be_put, entry_or, is_superblock, lowered_entry, superblock_in, lead, pairs_along, superblock_pairs}
 
 -- what pairs hold, each with its pair; those that hold no part are left out
@@ -53,20 +57,28 @@ with_first e (p ∷ ps) = (p.0, record { entries = e ∷ p.1.entries; tail = p.1
 
 -- ---- pairs rewritten
 
--- a pair holds a part, and all blocks but the pair's are as they were
+-- where the blocks of a pair stand: the live one with its revision, and the other one
+pub record ArePlaces (d : Disk) (pair : Pair) (places : PairPlaces) : Type 0 where
+  pub live : places.live ≡ live_number d pair
+  pub beside : places.beside ≡ other_number d pair
+  pub revision : places.revision ≡ live_revision d pair
+
+-- A pair holds a part, and no older state of it can be taken, unless it held the part before. All blocks but the pair's are as they were.
 pub record IsPartPut (d e : Disk) (p : PairPart) : Type 0 where
   pub disk : IsDisk e
   pub size : e.size ≡ d.size
   pub count : e.count ≡ d.count
   pub held : stored_part_of e p.0 ≡ Some p.1
+  pub alone : IsSame d e p.0 ⊎ IsAlone e p.0
   pub others : (b : ℕ) → b ≢ p.0.0 → b ≢ p.0.1 → block_of e b ≡ block_of d b
 
--- pairs hold parts, and all blocks but theirs are as they were
+-- the same of the pairs of parts
 pub record ArePartsPut (d e : Disk) (ps : List PairPart) : Type 0 where
   pub disk : IsDisk e
   pub size : e.size ≡ d.size
   pub count : e.count ≡ d.count
   pub held : (p : PairPart) → Contains ps p → stored_part_of e p.0 ≡ Some p.1
+  pub alone : (p : PairPart) → Contains ps p → IsSame d e p.0 ⊎ IsAlone e p.0
   pub others : (b : ℕ) → pairs_name b (map (λ p. p.0) ps) ≡ 0 → block_of e b ≡ block_of d b
 
 -- a pair may be rewritten with a part

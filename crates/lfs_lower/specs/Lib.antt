@@ -1,3 +1,4 @@
+pub mod Alone
 pub mod Commits
 pub mod Told
 pub mod Version

@@ -3,6 +3,7 @@
 //! was expanded, with one superblock.
 #![tactic(auto)]
 
+mod alone;
 mod beginning;
 mod block;
 mod commit;
@@ -14,6 +15,7 @@ mod laws;
 mod lowering;
 mod lowering_all;
 mod own;
+mod plain;
 mod putting;
 mod seen_block;
 mod seen_commit;

@@ -1,11 +1,18 @@
 //! Blocks and pairs of an image lowered.
 
-ghost use Rattle.std.specs.Prelude.{◌≢◌, ◌<◌, OnOk};
-ghost use Rattle.lfs_lower.specs.Lowered.{IsBlockLowered, IsPairLowered};
+ghost use Rattle.std.specs.Prelude.{◌≡◌, ◌≢◌, ◌<◌, ◌≤◌, Bool, IfOk, OnOk, is_some, length};
+ghost use Rattle.lfs_lower.specs.Lowered.{IsBlockLowered, IsLaterLive, IsPairLowered, tried_first};
+ghost use Rattle.lfs_lower.specs.Spelled.{lowered_tags};
 
+use crate::alone::write_alone;
 use crate::block::lowered_block;
+use crate::kept::kept_edits;
 use crate::laws::lowered_blocks_are_read;
+use crate::plain::is_plain_pair;
+use crate::seen_pair::is_later;
 use lfs_block::{Blocks, Image, put_blocks_stand};
+use lfs_meta::revision;
+use lfs_tag::laws::{erased_block, log_is_read};
 use std::alloc::{AllocError, Global};
 
 /// The blocks before this one are those of the root's first pair.
@@ -24,14 +31,66 @@ pub(crate) fn lower_block(alloc: Global, image: &mut Image, number: u32) -> Resu
     Ok(())
 }
 
-/// Lowers both blocks of a pair: each is written anew with what version 2.1 reads of it, as one commit that version 2.0 reads, and erased
-/// where that is none. The superblock states 2.0 in the place of 2.1. If memory is refused, the first one may be lowered. Takes memory.
+/// Whether version 2.1 reads a commit of a block. Takes memory.
+fn has_commit(alloc: Global, block: &[u8]) -> Result<bool, AllocError>
+    requires { 4 ≤ length block.now }
+    ensures { IfOk result (λ has. (in_root : Bool) → is_some (lowered_tags in_root block.now) ≡ has) }
+{
+    let kept = kept_edits(alloc, false, block)?;
+    Ok(kept.is_some())
+}
+
+/// The block of a pair that is tried first, since its revision is the later one, and the other one.
+fn tried_first<B: Blocks>(blocks: &B, pair: (u32, u32)) -> (u32, u32)
+    requires first { pair.0 < (B.disk blocks.now).count }
+    requires second { pair.1 < (B.disk blocks.now).count }
+    ensures { result ≡ tried_first (B.disk blocks.now) pair }
+{
+    let _fits_the_limits = blocks.size();
+    let first = revision(blocks.block(pair.0));
+    let second = revision(blocks.block(pair.1));
+    if is_later(second, first) {
+        (pair.1, pair.0)
+    } else {
+        pair
+    }
+}
+
+/// The block of a pair that version 2.1 takes for the live one, and the one beside it. Takes memory.
+fn later_live<B: Blocks>(
+    alloc: Global,
+    blocks: &B,
+    pair: (u32, u32),
+) -> Result<(u32, u32), AllocError>
+    requires first { pair.0 < (B.disk blocks.now).count }
+    requires second { pair.1 < (B.disk blocks.now).count }
+    ensures { IfOk result (λ found. IsLaterLive (B.disk blocks.now) pair found.0 found.1) }
+{
+    let _fits_the_limits = blocks.size();
+    let (tried, beside) = tried_first(blocks, pair);
+    if has_commit(alloc, blocks.block(tried))? {
+        return Ok((tried, beside));
+    }
+    Ok((beside, tried))
+}
+
+/// Lowers a pair: it holds what version 2.1 reads of it then. A pair of which version 2.0 reads that already stays as it is. In another one
+/// the block that version 2.1 takes for the live one keeps its place and its revision, and says all in one commit; the one beside it is
+/// erased. The superblock states 2.0 in the place of 2.1. Memory that is refused changes nothing. Takes memory.
 pub fn lower_pair(alloc: Global, image: &mut Image, pair: (u32, u32)) -> Result<(), AllocError>
     requires apart { pair.0 ≢ pair.1 }
     requires first { pair.0 < image.old.disk.count }
     requires second { pair.1 < image.old.disk.count }
     ensures { OnOk result (IsPairLowered image.old.disk image.new.disk pair) }
 {
-    lower_block(alloc, image, pair.0)?;
-    lower_block(alloc, image, pair.1)
+    lowered_blocks_are_read();
+    erased_block();
+    log_is_read();
+    let _fits_the_limits = image.size();
+    if is_plain_pair(alloc, image, pair)? {
+        return Ok(());
+    }
+    let (live, beside) = later_live(alloc, image, pair)?;
+    let block = lowered_block(alloc, live < ROOT_END, image.block(live))?;
+    write_alone(alloc, image, live, beside, &block)
 }

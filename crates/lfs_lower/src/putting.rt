@@ -1,40 +1,22 @@
 //! Pairs rewritten with parts.
 
-ghost use Rattle.std.specs.Prelude.{◌≡◌, ◌<◌, ◌≤◌, ℕ, All, OnOk, length, map};
+ghost use Rattle.std.specs.Prelude.{◌≡◌, ◌<◌, ◌≤◌, ℕ, All, OnOk, map};
 ghost use Rattle.std.specs.List.{list_all};
-ghost use Rattle.lfs_block.specs.Bytes.{IsBytes};
-ghost use Rattle.lfs_block.specs.Disk.{put};
-ghost use Rattle.lfs_meta.specs.Weighing.{weights};
-ghost use Rattle.lfs_meta.specs.Runs.{most_entries};
 ghost use Rattle.lfs_fs.specs.Front.{pairs_name};
 ghost use Rattle.lfs_fs.specs.Thread.{next};
-ghost use Rattle.lfs_lower.specs.Joining.{ArePartsPut, CanPut, IsPartPut};
+ghost use Rattle.lfs_lower.specs.Joining.{ArePartsPut, ArePlaces, CanPut, IsPartPut};
 ghost use Rattle.lfs_lower.specs.OneSuperblock.{can_be_put, tail_within};
 
-use lfs_block::{Blocks, Image, put_blocks_stand};
-use lfs_meta::{Entry, Part, Tail, parts_depend_on_their_blocks, weight};
-use lfs_pair::rewrite;
+use crate::alone::write_alone;
+use lfs_block::{Blocks, Image};
+use lfs_meta::{LiveBlock, Part, Tail, parts_depend_on_their_blocks, revision};
+use lfs_pair::{holds_part, part_block, part_weight};
 use std::alloc::{AllocError, Global};
 
 /// The most entries that one pair holds.
 const MOST_ENTRIES: usize = 1_000;
-/// The bytes of a block that a part leaves beside its entries: its revision, tail, delta and checksum.
-const BESIDE_ENTRIES: u32 = 40;
 
 // ---- the test
-
-/// What entries take of a block, in bytes.
-fn weights(entries: &[Entry]) -> u32
-    requires { length entries.now ≤ most_entries }
-    ensures value { result ≡ weights entries.now }
-    ensures small { result ≤ 264708000 }
-{
-    let mut sum = 0;
-    for entry in entries {
-        sum += weight(entry);
-    }
-    sum
-}
 
 /// Whether a tail names blocks of an image of `count` blocks, or none.
 fn tail_within(tail: Tail, count: u32) -> bool
@@ -50,9 +32,7 @@ fn tail_within(tail: Tail, count: u32) -> bool
 fn can_be_put(part: &Part, size: u32, count: u32) -> bool
     ensures { result ≡ can_be_put size count part.now.1 }
 {
-    part.entries.len() <= MOST_ENTRIES
-        && weights(&part.entries) + BESIDE_ENTRIES <= size
-        && tail_within(part.tail, count)
+    part.entries.len() <= MOST_ENTRIES && part_weight(part) <= size && tail_within(part.tail, count)
 }
 
 /// Whether each pair can be rewritten with its part.
@@ -64,36 +44,58 @@ pub fn all_can(parts: &[Part], size: u32, count: u32) -> bool
 
 // ---- pairs rewritten
 
-/// Writes bytes over a block of an image.
-fn overwrite(image: &mut Image, number: u32, bytes: &[u8])
-    requires within { number < image.old.disk.count }
-    requires complete { length bytes.now ≡ image.old.disk.size }
-    ensures disk { image.new.disk ≡ put number bytes.now image.old.disk }
-    ensures bytes { IsBytes bytes.now }
-{
-    image.write_block(number, bytes);
+/// Where the blocks of a pair stand, and the revision of the live one.
+#[derive(Clone, Copy)]
+pub(crate) struct PairPlaces {
+    /// The live block, or the first one if neither is live.
+    live: u32,
+    /// The one beside it.
+    beside: u32,
+    /// The revision of the live block.
+    revision: u32,
 }
 
-/// Rewrites a pair with a part. Want of memory changes nothing.
+/// Where the blocks of a pair stand.
+fn places_of<B: Blocks>(blocks: &B, pair: (u32, u32)) -> PairPlaces
+    requires first { pair.0 < (B.disk blocks.now).count }
+    requires second { pair.1 < (B.disk blocks.now).count }
+    ensures { ArePlaces (B.disk blocks.now) pair result }
+{
+    let _fits_the_limits = blocks.size();
+    let first = blocks.block(pair.0);
+    let second = blocks.block(pair.1);
+    match LiveBlock::of(first, second) {
+        LiveBlock::Second(_) => PairPlaces {
+            live: pair.1,
+            beside: pair.0,
+            revision: revision(second),
+        },
+        LiveBlock::First(_) | LiveBlock::Neither => PairPlaces {
+            live: pair.0,
+            beside: pair.1,
+            revision: revision(first),
+        },
+    }
+}
+
+/// Writes a part into its pair: the live block keeps its place and its revision, and the one beside it is erased. A pair that holds the part
+/// already stays as it is. Memory that is refused changes nothing. Takes memory.
 fn put_part(alloc: Global, image: &mut Image, part: &Part) -> Result<(), AllocError>
     requires { CanPut image.old.disk part.now }
     ensures { OnOk result (IsPartPut image.old.disk image.new.disk part.now) }
 {
-    put_blocks_stand();
-    let _fits_the_limits = image.size();
-    let (number, bytes) = rewrite(
-        alloc,
-        image,
-        part.pair,
-        &part.entries,
-        part.tail,
-        part.delta,
-    )?;
-    overwrite(image, number, &bytes);
-    Ok(())
+    let size = image.size();
+    if holds_part(alloc, image, part)? {
+        return Ok(());
+    }
+    let places = places_of(image, part.pair);
+    let block = part_block(alloc, size, places.revision, part)?;
+    write_alone(alloc, image, places.live, places.beside, &block)
 }
 
-/// Rewrites pairs, no two of which have a block in common, each with its part. Want of memory leaves those that come first rewritten.
+/// Writes parts into their pairs, no two of which have a block in common: each live block keeps its place and its revision, and the one
+/// beside it is erased. Pairs that hold their parts already stay as they are. If memory is refused, those that come first are written.
+/// Takes memory.
 pub fn put_parts(alloc: Global, image: &mut Image, parts: &[Part]) -> Result<(), AllocError>
     requires can { All (CanPut image.old.disk) parts.now }
     requires apart { (b : ℕ) → pairs_name b (map (λ p. p.0) parts.now) ≤ 1 }

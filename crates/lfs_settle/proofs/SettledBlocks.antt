@@ -1,5 +1,5 @@
 -- An image whose pairs are lowered, and hold the settled parts then, is settled.
-use Rattle.std.proofs.Common.{◌≡◌, inl, inr, ℕ, ◌≤◌, ◌<◌, ◌==◌, Bool, true, false, List, [], ◌∷◌, length, Option, Some, None, refl, ap, sym, ◌∙◌, subst, arith}
+use Rattle.std.proofs.Common.{◌≡◌, ◌⊎◌, inl, inr, ℕ, ◌≤◌, ◌<◌, ◌==◌, Bool, true, false, List, [], ◌∷◌, length, Option, Some, None, refl, ap, sym, ◌∙◌, subst, arith}
 use Rattle.std.specs.Prelude.{All, Contains, IsSome, ◌&&◌, bytes_eq, find, if◌then◌else◌, not, option_map}
 use Rattle.std.specs.List.{AllByRecursion, filter, list_all}
 use Rattle.std.specs.Option.{option_map_or, option_or}
@@ -7,7 +7,7 @@ use Rattle.std.proofs.lemmas.Bool.{and_parts, both_ways, eqb-true}
 use Rattle.std.proofs.lemmas.Slice.Eq.{bytes_eq-Decides}
 use Rattle.std.proofs.lemmas.List.Elements.{All-contains, All-map, All-nil, All-weaker}
 use Rattle.std.proofs.lemmas.List.Sums.{sum_by-cons}
-use Rattle.lfs_block.specs.Disk.{Disk, IsDisk}
+use Rattle.lfs_block.specs.Disk.{Disk, erased_block}
 use Rattle.lfs_meta.specs.declared.tail.Tail.{Tail}
 use Rattle.lfs_meta.specs.declared.tail.Tail.TheVariants.{End, Hard, Soft}
 use Rattle.lfs_meta.specs.Body.{Pair}
@@ -24,11 +24,10 @@ use Rattle.lfs_fs.proofs.ContainsLemmas.{contains_cases, contains_first, contain
 use Rattle.lfs_fs.proofs.EntryAtLemmas.{found}
 use Rattle.lfs_fs.proofs.PairLemmas.{same_pair-is, same_pair-refl}
 use Rattle.lfs_lower.specs.Joining.{ArePartsPut, CanPut}
-use Rattle.lfs_lower.specs.LaterReading.{later_part_of, later_reading_of}
-use Rattle.lfs_lower.specs.Laws.{LivesAreRead}
+use Rattle.lfs_lower.specs.Alone.{IsAlone, IsLeft, IsSame}
+use Rattle.lfs_lower.specs.LaterReading.{later_reading_of}
 use Rattle.lfs_lower.specs.OneSuperblock.{can_be_put}
-use Rattle.lfs_lower.proofs.LongestFronts.{names_first, pairs_name_both}
-use Rattle.lfs_lower.proofs.LoweredPairs.{lowered_part}
+use Rattle.lfs_lower.proofs.LongestFronts.{names_first}
 use Rattle.lfs_lower.proofs.PartsPut.{pair_in, pairs_in}
 use Rattle.lfs_settle.specs.InStep.{has_thread, in_step, pairs_named, stepped_part, thread_pairs, thread_parts}
 use Rattle.lfs_settle.specs.Laws.{AreLinked, first_pair}
@@ -309,13 +308,13 @@ module _ (d : Disk) (pairs : List Pair) (changed : List PairPart) (plan : IsPlan
 
 -- ---- the image
 
-module _ (lives : LivesAreRead) (depend : PartsDependOnTheirBlocks) (d m e : Disk) (disk : IsDisk d) where
-  -- what a pair holds that was lowered
-  lowered_held : (ps : List Pair) → ((b : ℕ) → 0 < pairs_name b ps → b < d.count) → ArePairsLowered d m ps → (p : Pair) → Contains ps p
-      → stored_part_of m p ≡ later_part_of d p
-  lowered_held ps within low p there =
-      let named = pairs_name_both ps p there in
-      lowered_part lives d m p disk (within p.0 named.0) (within p.1 named.1) (low.lowered p.0 named.0) (low.lowered p.1 named.1)
+module _ (depend : PartsDependOnTheirBlocks) (d m e : Disk) where
+  -- a pair whose blocks stay is as it was once it was lowered
+  left_by : (p : Pair) → IsSame m e p → IsLeft d m p ⊎ IsAlone m p → e.size ≡ m.size → IsLeft d e p ⊎ IsAlone e p
+  left_by p same (inl is) size =
+      inl (record { first_plain = is.first_plain; second_plain = is.second_plain; same = (same.0 ∙ is.same.0, same.1 ∙ is.same.1) })
+  left_by p same (inr (inl is)) size = inr (inl (same.0 ∙ is ∙ ap erased_block (sym size)))
+  left_by p same (inr (inr is)) size = inr (inr (same.1 ∙ is ∙ ap erased_block (sym size)))
 
   abbrev old : Reading
   old = later_reading_of d
@@ -324,16 +323,22 @@ module _ (lives : LivesAreRead) (depend : PartsDependOnTheirBlocks) (d m e : Dis
   left = settled_parts (thread_parts (in_step old))
 
   module _ (can : can_settle old (in_step old) ≡ true) (low : ArePairsLowered d m (pairs_in left)) (put : ArePartsPut m e (changed_parts old)) where
-    -- a part that isn't put is held already, and its blocks are lowered
-    stays : (q : PairPart) → Contains left q → is_held old q ≡ true → stored_part_of e q.0 ≡ Some q.1
-    stays q there held =
+    -- the blocks of a part that isn't put stay
+    unput_same : (q : PairPart) → Contains left q → is_held old q ≡ true → IsSame m e q.0
+    unput_same q there held =
         let test : PairPart → Bool = λ (p : PairPart). not (is_held old p) in
         let out : test q ≡ false = ap not held in
         let first = omega_none q.0.0 (left_out q.0.0 test left q there out) (settled_once (in_step old) q.0.0) (names_first q.0) in
         let second = omega_none q.0.1 (left_out q.0.1 test left q there out) (settled_once (in_step old) q.0.1) (names_second q.0) in
-        (depend e m q.0 (put.others q.0.0 first, put.others q.0.1 second)).2
-        ∙ lowered_held (pairs_in left) (settled_within (in_step old)) low q.0 (contains_mapped (λ (x : PairPart). x.0) left q there)
-        ∙ held_already old q there held
+        (put.others q.0.0 first, put.others q.0.1 second)
+
+    lowered_there : (q : PairPart) → Contains left q → Contains (pairs_in left) q.0
+    lowered_there q there = contains_mapped (λ (x : PairPart). x.0) left q there
+
+    -- it is held already, and its pair is lowered
+    stays : (q : PairPart) → Contains left q → is_held old q ≡ true → stored_part_of e q.0 ≡ Some q.1
+    stays q there held =
+        (depend e m q.0 (unput_same q there held)).2 ∙ low.held q.0 (lowered_there q there) ∙ held_already old q there held
 
     put_there : (q : PairPart) (t : Bool) → Contains left q → is_held old q ≡ t → stored_part_of e q.0 ≡ Some q.1
     put_there q true there is = stays q there is
@@ -346,6 +351,14 @@ module _ (lives : LivesAreRead) (depend : PartsDependOnTheirBlocks) (d m e : Dis
         ∙ sym (has_part old left (settled_once (in_step old)) q there)
         ∙ ap (λ (x : Reading). x.part q.0) (sym (settled_is old can))
 
+    alone_by : (q : PairPart) (t : Bool) → Contains left q → is_held old q ≡ t → IsLeft d e q.0 ⊎ IsAlone e q.0
+    alone_by q true there is = left_by q.0 (unput_same q there is) (low.alone q.0 (lowered_there q there)) put.size
+    alone_by q false there is =
+        elim (put.alone q (contains_filtered (λ (p : PairPart). not (is_held old p)) left q there (ap not is))) [
+          | inl same ↦ left_by q.0 same (low.alone q.0 (lowered_there q there)) put.size
+          | inr alone ↦ inr alone
+        ]
+
     settled_image : IsSettledImage d e
     settled_image = record {
       disk = put.disk;
@@ -354,6 +367,9 @@ module _ (lives : LivesAreRead) (depend : PartsDependOnTheirBlocks) (d m e : Dis
       held = λ p there.
           let q = contains_of (λ (x : PairPart). x.0) left p (subst (λ (ps : List Pair). Contains ps p) (sym (pairs_are old can)) there) in
           subst (λ (x : Pair). stored_part_of e x ≡ (settled old).part x) q.2 (held_there q.0 q.1);
+      alone = λ p there.
+          let q = contains_of (λ (x : PairPart). x.0) left p (subst (λ (ps : List Pair). Contains ps p) (sym (pairs_are old can)) there) in
+          subst (λ (x : Pair). IsLeft d e x ⊎ IsAlone e x) q.2 (alone_by q.0 (is_held old q.0) q.1 refl);
       others = λ b none.
           let unnamed : pairs_name b (pairs_in left) ≡ 0 = ap (pairs_name b) (pairs_are old can) ∙ none in
           put.others b (omega (arith, fewer b (λ (p : PairPart). not (is_held old p)) left, unnamed)) ∙ low.others b unnamed;
@@ -369,9 +385,11 @@ module _ (lives : LivesAreRead) (depend : PartsDependOnTheirBlocks) (d m e : Dis
         count = put.count ∙ low.count;
         held = λ p there.
             (depend e m p (put.others p.0 refl, put.others p.1 refl)).2
-            ∙ lowered_held (thread_pairs old) (thread_is_front old).within low p
-            (subst (λ (q : Reading). Contains (thread_pairs q) p) same there)
+            ∙ low.held p (subst (λ (q : Reading). Contains (thread_pairs q) p) same there)
             ∙ ap (λ (q : Reading). q.part p) (sym same);
+        alone = λ p there.
+            left_by p (put.others p.0 refl, put.others p.1 refl)
+            (low.alone p (subst (λ (q : Reading). Contains (thread_pairs q) p) same there)) put.size;
         others = λ b none.
             put.others b refl ∙ low.others b (ap (λ (q : Reading). pairs_name b (thread_pairs q)) (sym same) ∙ none);
       }

@@ -1,6 +1,6 @@
 -- An image that a device left unfinished, read as the device's next change leaves it (DESIGN.md, "The move problem"; what is dropped is
 -- own).
-use Rattle.std.specs.Prelude.{ℕ, ◌≡◌, ◌==◌, ◌&&◌, ◌||◌, ◌++◌, Bool, true, false, List, [], ◌∷◌, length, map, replicate, Contains}
+use Rattle.std.specs.Prelude.{ℕ, ◌≡◌, ◌⊎◌, ◌==◌, ◌&&◌, ◌||◌, ◌++◌, Bool, true, false, List, [], ◌∷◌, length, map, replicate, Contains}
 use Rattle.std.specs.Prelude.{Option, option_map, bytes_eq, find, if◌then◌else◌}
 use Rattle.std.specs.List.{list_all}
 use Rattle.std.specs.Option.{option_map_or, option_or}
@@ -15,6 +15,7 @@ use Rattle.lfs_fs.specs.Front.{pairs_name}
 use Rattle.lfs_fs.specs.Gathering.{PairPart, delta_from}
 use Rattle.lfs_fs.specs.Reading.{Reading}
 use Rattle.lfs_fs.specs.Thread.{soft_to}
+use Rattle.lfs_lower.specs.Alone.{IsAlone, IsLeft}
 use Rattle.lfs_lower.specs.LaterReading.{later_reading_of}
 use Rattle.lfs_lower.specs.OneSuperblock.{can_be_put}
 use Rattle.lfs_settle.specs.InStep.{has_thread, in_step, thread_pairs, thread_parts}
@@ -105,10 +106,12 @@ settled r = settled_by r (in_step r)
 abbrev pub settled_reading_of : Disk → Reading
 settled_reading_of d = settled (later_reading_of d)
 
--- the pairs of the settled thread hold what they count as, and all other blocks are as they were
+-- The pairs of the settled thread hold what they count as, and no older state of them can be taken, unless both versions read the same of
+-- them. All other blocks are as they were.
 pub record IsSettledImage (d e : Disk) : Type 0 where
   pub disk : IsDisk e
   pub size : e.size ≡ d.size
   pub count : e.count ≡ d.count
   pub held : (p : Pair) → Contains (thread_pairs (settled_reading_of d)) p → stored_part_of e p ≡ (settled_reading_of d).part p
+  pub alone : (p : Pair) → Contains (thread_pairs (settled_reading_of d)) p → IsLeft d e p ⊎ IsAlone e p
   pub others : (b : ℕ) → pairs_name b (thread_pairs (settled_reading_of d)) ≡ 0 → block_of e b ≡ block_of d b

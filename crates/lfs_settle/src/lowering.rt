@@ -6,6 +6,7 @@ ghost use Rattle.lfs_settle.specs.Lowered.{ArePairsLowered};
 
 use lfs_block::{Blocks, Image};
 use lfs_lower::lower_pair;
+use lfs_meta::parts_depend_on_their_blocks;
 use std::alloc::{AllocError, Global};
 
 /// Lowers pairs, no two of which have a block in common. If memory is refused, those that come first are lowered. Takes memory.
@@ -18,6 +19,7 @@ pub(crate) fn lower_pairs(
     requires apart { (b : ℕ) → pairs_name b pairs.now ≤ 1 }
     ensures { OnOk result (ArePairsLowered image.old.disk image.new.disk pairs.now) }
 {
+    parts_depend_on_their_blocks();
     let _fits_the_limits = image.size();
     for pair in pairs {
         lower_pair(alloc, image, *pair)?;

@@ -6,20 +6,20 @@ ghost use Rattle.lfs_settle.specs.Settled.{IsSettledImage};
 use crate::lowering::lower_pairs;
 use crate::planning::plan_of;
 use lfs_block::{Blocks, Image};
-use lfs_lower::{lowered_blocks_are_read, put_parts};
+use lfs_lower::put_parts;
 use lfs_meta::parts_depend_on_their_blocks;
 use std::alloc::{AllocError, Global};
 
 /// Settles an image, as the next change of a device does, and lowers it to version 2.0: the pairs that entries name are those of the
 /// thread, the moved entry is gone, and so are the directories that no path leads to, and no state is left. The pairs of the thread that
-/// stays are lowered, and all other blocks stay. If the thread isn't whole, the state isn't one that a device ends, or a pair has no room
+/// stays are lowered, and all other blocks stay. In each of those pairs the live block keeps its place and its revision, and the one beside
+/// it is erased; a pair of which both versions read the same, and which holds its part already, stays as it is. If the thread isn't whole, the state isn't one that a device ends, or a pair has no room
 /// for what it is to hold, the thread is lowered as it stands, as far as its pairs are read. If memory is refused, some pairs may be
 /// rewritten, and the image is of no use. Takes memory.
 pub fn settle(alloc: Global, image: &mut Image) -> Result<(), AllocError>
     ensures { OnOk result (IsSettledImage image.old.disk image.new.disk) }
 {
     parts_depend_on_their_blocks();
-    lowered_blocks_are_read();
     let _fits_the_limits = image.size();
     let plan = plan_of(alloc, image)?;
     lower_pairs(alloc, image, &plan.pairs)?;

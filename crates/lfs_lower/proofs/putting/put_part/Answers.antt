@@ -1,26 +1,64 @@
--- The block that is written is one of the pair's, and the pair then holds the part.
-use Rattle.std.proofs.Common.{◌≡◌, ap, sym, ◌∙◌, subst, List, ℕ}
-use Rattle.lfs_block.specs.Bytes.{IsBytes}
-use Rattle.lfs_block.specs.Disk.{Disk, put}
-use Rattle.lfs_pair.specs.Writing.{IsRewritten, stored_part}
-use Rattle.lfs_meta.specs.Entry.{StoredEntry}
+-- The block that is written is the live one of the pair, and the pair then holds the part.
+use Rattle.std.proofs.Common.{◌≡◌, ℕ, ap, sym, subst}
+use Rattle.std.proofs.lemmas.Bool.{OnTrue_at}
+use Rattle.std.proofs.lemmas.Result.{on_ok_weaker}
+use Rattle.lfs_block.specs.Disk.{Disk}
+use Rattle.lfs_meta.specs.Body.{Pair}
+use Rattle.lfs_pair.specs.Appending.{live_number, live_of, number_by}
+use Rattle.lfs_pair.specs.Writing.{IsPartBlock, other_number}
 use Rattle.lfs_fs.specs.Gathering.{PairPart}
-use Rattle.lfs_lower.specs.Joining.{IsPartPut}
-use Rattle.lfs_lower.proofs.PartsPut.{part_put}
+use Rattle.lfs_lower.specs.Alone.{AreOf}
+use Rattle.lfs_lower.proofs.AloneBlocks.{apart_by, beside_within, live_within, of_places}
+use Rattle.lfs_lower.proofs.PartsPut.{part_put, part_stays}
 use Rattle.lfs_lower.proofs.putting.put_part.Goals as goal
+
+-- the blocks that are written are those of the pair
+of_part : (d : Disk) (inside pair : Pair) (live beside : ℕ) → inside ≡ pair → live ≡ live_number d inside → beside ≡ other_number d inside
+    → AreOf pair live beside
+of_part d inside pair live beside is live_is beside_is =
+    subst (λ (p : Pair). AreOf p live beside) is
+    (subst (λ (n : ℕ). AreOf inside n beside) (sym live_is)
+    (subst (λ (n : ℕ). AreOf inside (number_by (live_of d inside) inside) n) (sym beside_is) (of_places (live_of d inside) inside)))
+
+pub write_alone-requires-clause-apart : goal.write_alone-requires-clause-apart
+write_alone-requires-clause-apart c =
+    let places = c.places_of-places.ensures in
+    apart_by c.args.part.now.0 c.places_of-places.result.live c.places_of-places.result.beside c.requires.apart
+    (of_part c.args.image.now.disk c.part.inside.pair c.args.part.now.0 c.places_of-places.result.live c.places_of-places.result.beside
+    (ap (λ (p : PairPart). p.0) c.part.view_is) places.live places.beside)
+
+pub write_alone-requires-clause-first : goal.write_alone-requires-clause-first
+write_alone-requires-clause-first c =
+    let places = c.places_of-places.ensures in
+    live_within c.args.image.now.disk.count c.args.part.now.0 c.places_of-places.result.live c.places_of-places.result.beside c.requires.first
+    c.requires.second
+    (of_part c.args.image.now.disk c.part.inside.pair c.args.part.now.0 c.places_of-places.result.live c.places_of-places.result.beside
+    (ap (λ (p : PairPart). p.0) c.part.view_is) places.live places.beside)
+
+pub write_alone-requires-clause-second : goal.write_alone-requires-clause-second
+write_alone-requires-clause-second c =
+    let places = c.places_of-places.ensures in
+    beside_within c.args.image.now.disk.count c.args.part.now.0 c.places_of-places.result.live c.places_of-places.result.beside c.requires.first
+    c.requires.second
+    (of_part c.args.image.now.disk c.part.inside.pair c.args.part.now.0 c.places_of-places.result.live c.places_of-places.result.beside
+    (ap (λ (p : PairPart). p.0) c.part.view_is) places.live places.beside)
+
+pub returns-then-branch : goal.returns-then-branch
+returns-then-branch c = part_stays c.args.image.now.disk c.args.part.now c.size-size.ensures.disk (OnTrue_at c.if-branch.true c.in_ok-holds_part.ensures)
 
 pub returns : goal.returns
 returns c =
     let d : Disk = c.args.image.now.disk in
+    let e : Disk = c.write_alone.new.image.disk in
     let p : PairPart = c.args.part.now in
-    let block : List ℕ = c.in_ok-number.bytes.items in
-    let bytes : IsBytes block = subst IsBytes c.deref-2.ensures.value c.overwrite.ensures.bytes in
-    let rewritten : IsRewritten d p.0 p.1 c.in_ok-number.number block =
-    subst (λ (q : PairPart). IsRewritten d q.0 q.1 c.in_ok-number.number block) c.part.view_is
-    (subst (λ (es : List StoredEntry). IsRewritten d c.part.inside.pair (stored_part es c.part.inside.tail c.part.inside.delta) c.in_ok-number.number block)
-    c.deref.ensures.value c.in_ok-number.ensures) in
-    let new : c.overwrite.new.image.disk ≡ put c.in_ok-number.number block d =
-    c.overwrite.ensures.disk ∙ ap (λ (xs : List ℕ). put c.in_ok-number.number xs d) c.deref-2.ensures.value in
-    subst (λ (e : Disk). IsPartPut d e p) (sym new)
-    (part_put d p c.in_ok-number.number block c.put_blocks_stand.ensures.others c.put_blocks_stand.ensures.disk
-    c.size-fits_the_limits.ensures.disk c.requires rewritten bytes)
+    let live : ℕ = c.places_of-places.result.live in
+    let beside : ℕ = c.places_of-places.result.beside in
+    let number : ℕ = c.places_of-places.result.revision in
+    let places = c.places_of-places.ensures in
+    let of : AreOf p.0 live beside =
+    of_part d c.part.inside.pair p.0 live beside (ap (λ (q : PairPart). q.0) c.part.view_is) places.live places.beside in
+    let block : IsPartBlock d.size number p.1 c.deref.result.now =
+    subst (IsPartBlock d.size number p.1) (sym c.deref.ensures.value)
+    (subst (λ (n : ℕ). IsPartBlock n number p.1 c.in_ok-block.block.items) c.size-size.ensures.value c.in_ok-block.ensures) in
+    on_ok_weaker c.write_alone.result (λ written. part_put d e p live beside number c.deref.result.now of block written)
+    c.write_alone.ensures.written

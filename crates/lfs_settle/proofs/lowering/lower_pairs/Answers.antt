@@ -23,4 +23,4 @@ lower_pair-requires-clause-second c =
 pub loop-pair-preserved : goal.loop-pair-preserved
 loop-pair-preserved c =
     next_lowered c.args.image.now.disk c.args.pairs.now c.loop-pair.pair-index (0, 0) c.loop-pair-test.true c.requires.within
-    c.requires.apart c.loop-pair.image.disk c.lower_pair.new.image.disk c.loop-pair.invariant c.in_ok-lower_pair.ensures
+    c.requires.apart c.parts_depend_on_their_blocks.ensures c.loop-pair.image.disk c.lower_pair.new.image.disk c.loop-pair.invariant c.in_ok-lower_pair.ensures

@@ -41,6 +41,6 @@ returns c =
     let changed : List PairPart = c.in_ok-plan.plan.changed.items in
     let low : ArePairsLowered d m pairs = subst (ArePairsLowered d m) c.deref.ensures.value c.in_ok-lower_pairs.ensures in
     IfOk-weaker c.put_parts.result _ _ (λ done put.
-    planned_image c.lowered_blocks_are_read.ensures.lives c.parts_depend_on_their_blocks.ensures d m c.put_parts.new.image.disk
-    c.size-fits_the_limits.ensures.disk pairs changed c.in_ok-plan.ensures low
+    planned_image c.parts_depend_on_their_blocks.ensures d m c.put_parts.new.image.disk
+    pairs changed c.in_ok-plan.ensures low
     (subst (ArePartsPut m c.put_parts.new.image.disk) c.deref-2.ensures.value put)) c.put_parts.ensures
