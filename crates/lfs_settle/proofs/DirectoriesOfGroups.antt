@@ -12,7 +12,7 @@ use Rattle.lfs_meta.specs.Entry.{StoredEntry}
 use Rattle.lfs_meta.specs.Name.{Name}
 use Rattle.lfs_meta.specs.Runs.{onto}
 use Rattle.lfs_fs.specs.Pair.{root, same_pair, unordered}
-use Rattle.lfs_fs.specs.Directory.{Directory, Part, begins_at, entries, key, parts}
+use Rattle.lfs_fs.specs.Directory.{Directory, Part, begins_at, entries, key}
 use Rattle.lfs_fs.specs.Entry.{Entry, body_target, is_named, target}
 use Rattle.lfs_fs.specs.Gathering.{PairPart, as_directory, link_from}
 use Rattle.lfs_fs.specs.Graph.{entry_within, walk}

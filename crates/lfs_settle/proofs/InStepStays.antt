@@ -1,5 +1,5 @@
 -- A sound volume's thread is in step: each directory has one pair, and its entry names it.
-use Rattle.std.proofs.Common.{◌≡◌, inl, inr, ℕ, suc, ◌+◌, ◌≤◌, ◌==◌, Bool, true, false, List, [], ◌∷◌, ◌++◌, Option, Some, None, refl, ap, sym, ◌∙◌, subst, arith}
+use Rattle.std.proofs.Common.{◌≡◌, inl, inr, ℕ, suc, ◌≤◌, ◌==◌, Bool, true, false, List, [], ◌∷◌, ◌++◌, Option, Some, None, refl, ap, sym, ◌∙◌, subst, arith}
 use Rattle.std.specs.Prelude.{Contains, cond, count_by, flat_map, if◌then◌else◌, nat_le, option_map, option_to_list}
 use Rattle.std.specs.List.{slice_get}
 use Rattle.std.specs.Option.{option_or}

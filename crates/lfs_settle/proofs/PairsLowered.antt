@@ -46,7 +46,10 @@ module _ (depend : PartsDependOnTheirBlocks) (d e f : Disk) (ps : List Pair) (p 
       let same = still_same q there in
       elim (old.alone q there) [
         | inl is ↦ inl (record {
-            first_plain = is.first_plain; second_plain = is.second_plain; same = (same.0 ∙ is.same.0, same.1 ∙ is.same.1) })
+          first_plain = is.first_plain;
+          second_plain = is.second_plain;
+          same = (same.0 ∙ is.same.0, same.1 ∙ is.same.1);
+        })
         | inr (inl is) ↦ inr (inl (same.0 ∙ is ∙ ap erased_block (sym new.size)))
         | inr (inr is) ↦ inr (inr (same.1 ∙ is ∙ ap erased_block (sym new.size)))
       ]
@@ -57,9 +60,10 @@ module _ (depend : PartsDependOnTheirBlocks) (d e f : Disk) (ps : List Pair) (p 
   new_alone : IsLeft d f p ⊎ IsAlone f p
   new_alone = elim new.alone [
     | inl is ↦ inl (record {
-        first_plain = plain_before p.0 before.0 is.first_plain;
-        second_plain = plain_before p.1 before.1 is.second_plain;
-        same = (is.same.0 ∙ before.0, is.same.1 ∙ before.1) })
+      first_plain = plain_before p.0 before.0 is.first_plain;
+      second_plain = plain_before p.1 before.1 is.second_plain;
+      same = (is.same.0 ∙ before.0, is.same.1 ∙ before.1);
+    })
     | inr is ↦ inr is
   ]
 

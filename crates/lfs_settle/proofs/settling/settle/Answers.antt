@@ -1,5 +1,5 @@
 -- The pairs of the plan are lowered, and its parts are put.
-use Rattle.std.proofs.Common.{◌≡◌, ◌<◌, ◌≤◌, ℕ, List, map, sym, subst}
+use Rattle.std.proofs.Common.{◌<◌, ◌≤◌, List, map, sym, subst}
 use Rattle.std.specs.Prelude.{All}
 use Rattle.std.proofs.lemmas.Result.{IfOk-weaker}
 use Rattle.lfs_block.specs.Disk.{Disk}
