@@ -317,6 +317,7 @@ none_put d disk = record {
   size = refl;
   count = refl;
   held = λ p there. absurd (contains_none p there);
+  alone = λ p there. absurd (contains_none p there);
   others = λ b none. refl;
 }
 
