@@ -1,0 +1,5 @@
+pub mod Adopted
+pub mod Laws
+pub mod Planned
+pub mod Tidied
+pub mod Tidying

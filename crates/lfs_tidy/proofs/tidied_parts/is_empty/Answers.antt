@@ -1,6 +1,0 @@
-use Rattle.std.proofs.Common.{◌∙◌}
-use Rattle.lfs_tidy.proofs.Filled.{empty_is}
-use Rattle.lfs_tidy.proofs.tidied_parts.is_empty.Goals as goal
-
-pub returns : goal.returns
-returns c = c.is_empty.ensures ∙ empty_is c.args.entries.now

@@ -1,4 +1,0 @@
-pub mod Laws
-pub mod Planned
-pub mod Tidied
-pub mod Tidying
