@@ -10,12 +10,14 @@ use Rattle.lfs_tag.specs.Laws.{ErasedBlock, LogIsRead}
 use Rattle.lfs_meta.specs.Body.{Pair}
 use Rattle.lfs_meta.specs.LiveBlock.{committed, committed_log, is_later, live_tags, revision, stored_part_of}
 use Rattle.lfs_meta.proofs.HeldPartLemmas.{block_bytes}
+use Rattle.lfs_fs.specs.Gathering.{PairPart}
+use Rattle.lfs_pair.specs.Writing.{IsPartBlock}
 use Rattle.lfs_pair.proofs.LiveAfter.{live_after, live_before, live_neither}
 use Rattle.lfs_pair.proofs.LogLemmas.{erased-uncommitted}
-use Rattle.lfs_lower.specs.Alone.{IsPlain, IsSame, IsWrittenAlone}
+use Rattle.lfs_lower.specs.Alone.{AreOf, IsPlain, IsSame, IsWrittenAlone}
 use Rattle.lfs_lower.specs.LaterReading.{later_part_of, live_by}
 use Rattle.lfs_lower.specs.Laws.{LivesAreRead, LoweredBlocksAreRead}
-use Rattle.lfs_lower.specs.Lowered.{IsBlockLowered, IsLaterLive, IsPairLowered}
+use Rattle.lfs_lower.specs.Lowered.{IsBlockLowered, IsLaterLive, IsPairLowered, IsReadFor}
 use Rattle.lfs_lower.specs.Spelled.{is_root_block, lowered_block, lowered_tags}
 use Rattle.lfs_lower.proofs.LoweredBlocks.{live-is}
 use Rattle.lfs_lower.proofs.AloneBlocks.{alone_by, held_by, others_by, part_by}
@@ -86,26 +88,38 @@ second_of : (tags : Option (List Item)) (new other : List ℕ) → committed new
 second_of None new other here none = live_neither other new none here
 second_of (Some ts) new other here none = live_after new other ts here none
 
--- the live block lowered, beside an erased one, is what version 2.1 reads of the pair
-pub alone_lowered : LoweredBlocksAreRead → ErasedBlock → LogIsRead → (d e : Disk) (pair : Pair) (live beside : ℕ) → IsDisk d → live < d.count
-    → IsLaterLive d pair live beside → IsWrittenAlone d e live beside (lowered_block (is_root_block live) (block_of d live))
-    → IsPairLowered d e pair
-alone_lowered read erased log d e pair live beside disk within is written =
-    let block : List ℕ = lowered_block (is_root_block live) (block_of d live) in
+-- the live block lowered is read for the pair
+pub lowered_for : LoweredBlocksAreRead → ErasedBlock → LogIsRead → (d : Disk) (pair : Pair) (live beside : ℕ) (block : List ℕ) → IsDisk d
+    → live < d.count → IsLaterLive d pair live beside → block ≡ lowered_block (is_root_block live) (block_of d live) → IsReadFor d pair block
+lowered_for read erased log d pair live beside block disk within is same_block =
     let tags : Option (List Item) = lowered_tags (is_root_block live) (block_of d live) in
-    let here : committed block ≡ tags = (read (is_root_block live) (block_of d live) (block_bytes d live disk) (block_fits d live disk within)).held in
+    let here : committed block ≡ tags =
+    ap committed same_block ∙ (read (is_root_block live) (block_of d live) (block_bytes d live disk) (block_fits d live disk within)).held in
     let none = erased-uncommitted erased log d.size (omega (arith, disk.geometry.size_fits.0)) in
     let same : part_by tags ≡ later_part_of d pair = ap part_by (sym is.tags) in
     record {
-      disk = written.disk;
-      size = written.size;
-      count = written.count;
-      held = held_by d e pair live beside block (later_part_of d pair) is.of written
-          (ap part_by (first_of tags block (erased_block d.size) here none) ∙ same)
-          (ap part_by (second_of tags block (erased_block d.size) here none) ∙ same);
-      alone = inr (alone_by d e pair live beside block is.of written);
-      others = others_by d e pair live beside block is.of written;
+      len = lowered_len read d live block disk within same_block;
+      before_erased = ap part_by (first_of tags block (erased_block d.size) here none) ∙ same;
+      behind_erased = ap part_by (second_of tags block (erased_block d.size) here none) ∙ same;
     }
+
+-- and so is one that is written anew with what version 2.1 reads of the pair
+pub anew_for : (d : Disk) (p : PairPart) (number : ℕ) (block : List ℕ) → later_part_of d p.0 ≡ Some p.1 → IsPartBlock d.size number p.1 block
+    → IsReadFor d p.0 block
+anew_for d p number block read is =
+    record { len = is.len; before_erased = is.before_erased ∙ sym read; behind_erased = is.behind_erased ∙ sym read }
+
+-- such a block, beside an erased one, lowers the pair
+pub alone_lowered : (d e : Disk) (pair : Pair) (live beside : ℕ) (block : List ℕ) → AreOf pair live beside → IsReadFor d pair block
+    → IsWrittenAlone d e live beside block → IsPairLowered d e pair
+alone_lowered d e pair live beside block of is written = record {
+  disk = written.disk;
+  size = written.size;
+  count = written.count;
+  held = held_by d e pair live beside block (later_part_of d pair) of written is.before_erased is.behind_erased;
+  alone = inr (alone_by d e pair live beside block of written);
+  others = others_by d e pair live beside block of written;
+}
 
 -- a pair of which both versions read the same
 pub plain_lowered : (d : Disk) (pair : Pair) → IsDisk d → IsPlain d pair.0 → IsPlain d pair.1 → IsPairLowered d d pair

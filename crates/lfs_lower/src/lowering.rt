@@ -1,17 +1,20 @@
 //! Blocks and pairs of an image lowered.
 
-ghost use Rattle.std.specs.Prelude.{◌≡◌, ◌≢◌, ◌<◌, ◌≤◌, Bool, IfOk, OnOk, is_some, length};
-ghost use Rattle.lfs_lower.specs.Lowered.{IsBlockLowered, IsLaterLive, IsPairLowered, tried_first};
+ghost use Rattle.std.specs.Prelude.{◌≡◌, ◌≢◌, ◌<◌, ◌≤◌, Bool, IfOk, IfSome, OnOk, is_some, length, ℕ};
+ghost use Rattle.lfs_lower.specs.Lowered.{IsBlockLowered, IsLaterLive, IsPairLowered, IsReadFor, tried_first};
 ghost use Rattle.lfs_lower.specs.Spelled.{lowered_tags};
 
 use crate::alone::write_alone;
 use crate::block::lowered_block;
 use crate::kept::kept_edits;
+use crate::later_part::later_part_at;
 use crate::laws::lowered_blocks_are_read;
 use crate::plain::is_plain_pair;
+use crate::putting::can_be_put;
 use crate::seen_pair::is_later;
 use lfs_block::{Blocks, Image, put_blocks_stand};
 use lfs_meta::revision;
+use lfs_pair::part_block;
 use lfs_tag::laws::{erased_block, log_is_read};
 use std::alloc::{AllocError, Global};
 
@@ -74,6 +77,54 @@ fn later_live<B: Blocks>(
     Ok((beside, tried))
 }
 
+/// The block of a pair written anew from the entries that version 2.1 reads of it, with this revision; `None` if it reads no part, or the
+/// part has no room. Takes memory.
+fn block_anew(
+    alloc: Global,
+    image: &Image,
+    pair: (u32, u32),
+    number: u32,
+) -> Result<Option<Vec<u8>>, AllocError>
+    requires first { pair.0 < image.now.disk.count }
+    requires second { pair.1 < image.now.disk.count }
+    ensures { IfOk result (λ found. IfSome found (λ block. IsReadFor image.now.disk pair block.items)) }
+{
+    let Some(part) = later_part_at(alloc, image, pair)? else {
+        return Ok(None);
+    };
+    if !can_be_put(&part, image.size(), image.count()) {
+        return Ok(None);
+    }
+    let block = part_block(alloc, image.size(), number, &part)?;
+    Ok(Some(block))
+}
+
+/// What the live block of a pair is written as: that of the root's first pair anew, since its superblock states another version, and each
+/// other one lowered. Takes memory.
+fn block_for(
+    alloc: Global,
+    image: &Image,
+    pair: (u32, u32),
+    live: u32,
+) -> Result<Vec<u8>, AllocError>
+    requires first { pair.0 < image.now.disk.count }
+    requires second { pair.1 < image.now.disk.count }
+    requires live { (beside : ℕ) × IsLaterLive image.now.disk pair live beside }
+    ensures { IfOk result (λ block. IsReadFor image.now.disk pair block.items) }
+{
+    lowered_blocks_are_read();
+    erased_block();
+    log_is_read();
+    let _fits_the_limits = image.size();
+    let old = image.block(live);
+    if live < ROOT_END {
+        if let Some(block) = block_anew(alloc, image, pair, revision(old))? {
+            return Ok(block);
+        }
+    }
+    lowered_block(alloc, live < ROOT_END, old)
+}
+
 /// Lowers a pair: it holds what version 2.1 reads of it then. A pair of which version 2.0 reads that already stays as it is. In another one
 /// the block that version 2.1 takes for the live one keeps its place and its revision, and says all in one commit; the one beside it is
 /// erased. The superblock states 2.0 in the place of 2.1. Memory that is refused changes nothing. Takes memory.
@@ -83,14 +134,11 @@ pub fn lower_pair(alloc: Global, image: &mut Image, pair: (u32, u32)) -> Result<
     requires second { pair.1 < image.old.disk.count }
     ensures { OnOk result (IsPairLowered image.old.disk image.new.disk pair) }
 {
-    lowered_blocks_are_read();
-    erased_block();
-    log_is_read();
     let _fits_the_limits = image.size();
     if is_plain_pair(alloc, image, pair)? {
         return Ok(());
     }
     let (live, beside) = later_live(alloc, image, pair)?;
-    let block = lowered_block(alloc, live < ROOT_END, image.block(live))?;
+    let block = block_for(alloc, image, pair, live)?;
     write_alone(alloc, image, live, beside, &block)
 }

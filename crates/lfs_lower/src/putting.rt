@@ -29,7 +29,7 @@ fn tail_within(tail: Tail, count: u32) -> bool
 }
 
 /// Whether a pair of an image of `count` blocks of `size` bytes can be rewritten with a part.
-fn can_be_put(part: &Part, size: u32, count: u32) -> bool
+pub(crate) fn can_be_put(part: &Part, size: u32, count: u32) -> bool
     ensures { result ≡ can_be_put size count part.now.1 }
 {
     part.entries.len() <= MOST_ENTRIES && part_weight(part) <= size && tail_within(part.tail, count)
