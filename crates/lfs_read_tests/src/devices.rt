@@ -32,11 +32,12 @@ const LAST: &[u8] = b"\x01\x00\x00\x00\xf0\x0f\xff\xf7littlefs\
 new\x30\x00\x04\x02\x61\x20\x00\x00\x02one\x20\x00\x0c\x02\x62\x20\x00\x00\x02two\
 \x70\x1f\xf4\x12\x77\x4c\x19\x92";
 
-// what the blocks 1 and 3 of the image with one superblock begin with
-const FIRST_PART: &[u8] = b"\x06\x00\x00\x00\xf0\x0f\xff\xf7littlefs";
+// what the blocks 0 and 2 of the image with one superblock begin with, the blocks beside which are erased
+const FIRST_PART: &[u8] = b"\x05\x00\x00\x00\xf0\x0f\xff\xf7littlefs\
+\x2f\xe0\x00\x10\x00\x00\x02\x00\x00\x02\x00\x00\x10\x00\x00\x00\x64";
 
-const SECOND_PART: &[u8] = b"\x02\x00\x00\x00\xff\xef\xff\xfe\x61\x20\x00\x00\x02one\
-\x20\x00\x04\x02\x62\x20\x00\x00\x02two\x70\x1f\xf8\x13\x28\x1e\x19\xc5";
+const SECOND_PART: &[u8] = b"\x01\x00\x00\x00\xff\xef\xff\xfe\x61\x20\x00\x00\x02one\
+\x20\x00\x04\x02\x62\x20\x00\x00\x02two\x70\x1f\xf8\x13\x97\x16\x06\x0c";
 
 /// Whether bytes begin so at a place.
 fn begins(bytes: &[u8], at: usize, front: &[u8]) -> bool {
@@ -107,7 +108,8 @@ fn joins(alloc: Global, image: Image) -> bool {
         return false;
     }
     let bytes = image.into_bytes();
-    begins(&bytes, 512, FIRST_PART) && begins(&bytes, 1_536, SECOND_PART)
+    let is_first = begins(&bytes, 0, FIRST_PART) && begins(&bytes, 512, &[0xff; 512]);
+    is_first && begins(&bytes, 1_024, SECOND_PART) && begins(&bytes, 1_536, &[0xff; 512])
 }
 
 /// Whether the one whose superblock was expanded does.

@@ -3,6 +3,8 @@
 #![tactic(auto)]
 
 #[cfg(test)]
+mod adopted;
+#[cfg(test)]
 mod appending;
 #[cfg(test)]
 mod blocks;

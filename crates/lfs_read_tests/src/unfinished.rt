@@ -20,12 +20,12 @@ const LOST: &[u8] =
 
 const KEPT: &[u8] = b"\x01\x00\x00\x00\xff\xef\xff\xfey \x00\x00\x05keptp\x1f\xfc\x0f\x0b\xe3R\x04";
 
-// the log of the block 1 of the settled one: /c and that directory are gone
+// the log of the block 0 of the settled one, whose block 1 is erased: /c and that directory are gone
 const SETTLED: &[u8] =
-    b"\x02\x00\x00\x00\xf0\x0f\xff\xf7littlefs/\xe0\x00\x10\x00\x00\x02\x00\x00\x01\x00\x00\x06\x00\x00\
+    b"\x01\x00\x00\x00\xf0\x0f\xff\xf7littlefs/\xe0\x00\x10\x00\x00\x02\x00\x00\x01\x00\x00\x06\x00\x00\
 \x00\xff\x00\x00\x00\xff\xff\xff\x7f\xfe\x03\x00\x00 \x00\x04\x19a \x00\x00\x02one \x00\x0c\x02b \
 \x00\x00\x02two 0\x04\x02d  \x00\x09\x04\x00\x00\x00\x05\x00\x00\x00@\x0f\xf0\x00\x04\x00\x00\x00\
-\x05\x00\x00\x000\x00\x00\x03\xed\xc4\xe3\x0a";
+\x05\x00\x00\x000\x00\x00\x03\xed\x52\xcf\x42";
 
 /// Whether bytes begin so at a place.
 fn begins(bytes: &[u8], at: usize, front: &[u8]) -> bool {
@@ -42,7 +42,7 @@ fn settles(alloc: Global, image: Image) -> bool {
         return false;
     }
     let bytes = image.into_bytes();
-    begins(&bytes, 0, ROOT) && begins(&bytes, 256, SETTLED) && begins(&bytes, 1_024, KEPT)
+    begins(&bytes, 0, SETTLED) && begins(&bytes, 256, &[0xff; 256]) && begins(&bytes, 1_024, KEPT)
 }
 
 /// Whether the image of the logs is.
