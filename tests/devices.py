@@ -339,13 +339,13 @@ EXPANDED = {
     "a count that grew": Row(joined(TWO, [former(count=8), former(FILES)]), HAS_FILES, EITHER + ("11 Geometry",)),
     "a limit that is larger in the last": Row(joined(TWO, [former(limits=(1, 1, 1)), former(FILES)]), HAS_FILES, EITHER + ("20 BadSize",)),
     "2.2 and then 2.1": Row(joined(TWO, [former(version=OTHER), former(FILES, version=LATER)]), HAS_FILES, EITHER),
-    "as many attributes as there is room for": Row(
+    "as many attributes as a new image takes": Row(
         joined(TWO, [former(), former(attribute(0, 1, bytes(428)))]), tree(attributes={"/": {1: bytes(428)}}), "expanded"),
 }
 
 # Superblocks that aren't read as one, or whose last one is refused.
 APART = {
-    "one attribute too many": Row(joined(TWO, [former(), former(attribute(0, 1, bytes(429)))]), ELSEWHERE, (ELSEWHERE,)),
+    "one attribute too many": Row(joined(TWO, [former(), former(attribute(0, 1, bytes(445)))]), ELSEWHERE, (ELSEWHERE,)),
     "in a directory": Row(
         joined([ROOT], [former(directory(1, b"d", (2, 3)), tail(SOFT, (2, 3)))], {2: log(1, former(FILES))}), ELSEWHERE, (ELSEWHERE,)),
     "behind a part with entries": Row(joined(TWO, [former(file(1, b"a")), former(file(1, b"b"))]), ELSEWHERE, (ELSEWHERE,)),

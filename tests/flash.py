@@ -287,7 +287,7 @@ def nothing_is_read(folder):
                 ("erased", inside(erased(2 * SIZE), before, erased(SIZE - 1)), "3 NoValidCommit", UNREAD),
                 ("a byte late", Flash(whole + held, at + 1, (whole + held)[at + 1:][:15 * SIZE]), "3 NoValidCommit", UNREAD),
                 ("no checksum", Flash(before + damaged(held) + noise(700), at, damaged(held) + noise(700)[:SIZE]), "3 NoValidCommit",
-                 UNREAD if options else states),
+                 states),
             ):
                 ends = are_alike(folder, name, flash, SIZE, options)
                 for command, (status, told, printed, made) in ends.items():
