@@ -1,4 +1,5 @@
 pub mod DirectoriesOfGroups
+pub mod DroppedGroups
 pub mod FirstWith
 pub mod Groupings
 pub mod InStepStays
@@ -13,8 +14,10 @@ pub mod SettledFrom
 pub mod SettledImage
 pub mod SettledStays
 pub mod SettledThread
+pub mod StepsAlong
 pub mod ThreadPairs
 pub mod ThreadParts
 pub mod Threadings
 pub mod Walk
+pub mod WhatIsEnded
 pub mod WholeThread

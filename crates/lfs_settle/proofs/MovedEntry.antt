@@ -1,6 +1,7 @@
 -- The entry that a move names goes, and no other one.
-use Rattle.std.proofs.Common.{◌≡◌, ℕ, zero, suc, ◌+◌, ◌<◌, ◌≤◌, Bool, true, List, [], ◌∷◌, ◌++◌, length, take, get_or, refl, ap, sym, ◌∙◌, arith}
-use Rattle.std.specs.Prelude.{◌&&◌, bit_xor, cond, count_by, if◌then◌else◌}
+use Rattle.std.proofs.Common.{◌≡◌, ℕ, zero, suc, ◌+◌, ◌<◌, ◌≤◌, Bool, true, false, List, [], ◌∷◌, ◌++◌, length, take, get_or, refl, ap, sym, ◌∙◌, arith}
+use Rattle.std.specs.Prelude.{◌&&◌, Option, Some, None, bit_xor, cond, count_by, if◌then◌else◌, option_map, slice_get}
+use Rattle.std.specs.Option.{option_or}
 use Rattle.std.specs.List.{remove}
 use Rattle.std.proofs.lemmas.Nat.{xor_comm}
 use Rattle.std.specs.Int.Bits.{xor_assoc}
@@ -8,6 +9,7 @@ use Rattle.std.proofs.lemmas.List.Sums.{sum_by-append, sum_by-cons}
 use Rattle.lfs_meta.specs.Entry.{StoredEntry}
 use Rattle.lfs_fs.specs.Gathering.{PairPart, delta_from}
 use Rattle.lfs_fs.specs.State.{little_endian}
+use Rattle.lfs_settle.specs.Ended.{first_moved, moved_in}
 use Rattle.lfs_settle.specs.Moved.{is_move, means, moved_entry, unmoved, without_at}
 use Rattle.lfs_settle.specs.Laws.{MovedEntryGoes, OthersStay}
 use Rattle.lfs_settle.proofs.NextItems.{next_taken}
@@ -49,6 +51,32 @@ pub without_past : {X : Type 0} (xs : List X) (n : ℕ) → length xs ≤ n → 
 without_past [] n past = refl
 without_past (x ∷ xs) zero past = absurd (omega arith)
 without_past (x ∷ xs) (suc n) past = ap (λ (ys : List _). x ∷ ys) (without_past xs n (omega arith))
+
+-- ---- the entry that goes
+
+-- a part that the move doesn't mean has none
+pub none_moved_in : (state : ℕ) (p : PairPart) → (is_move state && means state p.0) ≡ false → moved_in state p ≡ None
+none_moved_in state p other =
+    ap (λ (b : Bool). if b then option_map (λ (e : StoredEntry). (p.0, e)) (slice_get p.1.entries (moved_entry state)) else None) other
+
+or_none : {X : Type 0} (o : Option X) → option_or o None ≡ o
+or_none None = refl
+or_none (Some x) = refl
+
+or_assoc : {X : Type 0} (a b c : Option X) → option_or a (option_or b c) ≡ option_or (option_or a b) c
+or_assoc None b c = refl
+or_assoc (Some x) b c = refl
+
+first_moved_push : (state : ℕ) (ps : List PairPart) (p : PairPart)
+    → first_moved state (ps ++ p ∷ []) ≡ option_or (first_moved state ps) (moved_in state p)
+first_moved_push state [] p = or_none (moved_in state p)
+first_moved_push state (q ∷ ps) p =
+    ap (option_or (moved_in state q)) (first_moved_push state ps p) ∙ or_assoc (moved_in state q) (first_moved state ps) (moved_in state p)
+
+pub first_moved_more : (state : ℕ) (ps : List PairPart) (i : ℕ) (p : PairPart) → i < length ps → p ≡ get_or ps i p
+    → option_or (first_moved state (take i ps)) (moved_in state p) ≡ first_moved state (take (i + 1) ps)
+first_moved_more state ps i p within at =
+    sym (ap (first_moved state) (next_taken ps i p within at) ∙ first_moved_push state (take i ps) p)
 
 -- ---- the exclusive or of shares
 

@@ -1,5 +1,5 @@
 -- Directories are found to be reached, one after another.
-use Rattle.std.proofs.Common.{◌≡◌, ◌⊎◌, inl, inr, ℕ, zero, suc, ◌+◌, ◌<◌, Bool, true, false, List, [], ◌∷◌, ◌++◌, length, replicate, Option, Some, None, refl, ap, sym, ◌∙◌, subst, arith, set, get_or, take}
+use Rattle.std.proofs.Common.{◌≡◌, ◌⊎◌, inl, inr, ℕ, zero, suc, ◌+◌, ◌<◌, Bool, true, false, List, [], ◌∷◌, ◌++◌, length, map, replicate, Option, Some, None, refl, ap, sym, ◌∙◌, subst, arith, set, get_or, take}
 use Rattle.std.specs.Prelude.{Contains, IfSome, cond, not, slice_get, if◌then◌else◌}
 use Rattle.std.specs.List.{filter, list_any}
 use Rattle.std.proofs.lemmas.Bool.{both_ways, cases_eq, or_cases}
@@ -18,7 +18,7 @@ use Rattle.lfs_fs.proofs.DirectoryTableLemmas.{slice_get_left, slice_get_seam}
 use Rattle.lfs_fs.proofs.PairLemmas.{same_pair-symmetric}
 use Rattle.lfs_fs.proofs.StoredLemmas.{all_got}
 use Rattle.lfs_settle.specs.InStep.{pairs_named, same_blocks}
-use Rattle.lfs_settle.specs.Reached.{begins_in, named_within, parts_of, reached_of}
+use Rattle.lfs_settle.specs.Reached.{begins_in, named_within, parts_of, reached_of, unreached_of}
 use Rattle.lfs_settle.specs.Reaching.{AreApart, AreFlagged, AreListed, AreReaching, FlagsNamed, FlagsOne, Stands, begins_with, flag, flagged}
 use Rattle.lfs_settle.proofs.DirectoriesOfGroups.{keyed_among}
 use Rattle.lfs_settle.proofs.NextItems.{next_taken}
@@ -361,6 +361,22 @@ flagged_by (f ∷ flags) [] test len is = refl
 flagged_by (f ∷ flags) (g ∷ gs) test len is =
     ap (λ (b : Bool). cond b (g ∷ flagged flags gs) (flagged flags gs)) (is 0 g refl)
     ∙ ap (λ (hs : List Group). cond (test g) (g ∷ hs) hs) (flagged_by flags gs test (omega (arith, len)) (λ i h at. is (suc i) h at))
+
+-- those that have no flag
+left_by : (f t : Bool) (g : Group) (gs hs : List Group) → f ≡ t → gs ≡ hs → cond (not f) (g ∷ gs) gs ≡ cond (not t) (g ∷ hs) hs
+left_by f t g gs hs same rest = ap (λ (b : Bool). cond (not b) (g ∷ gs) gs) same ∙ ap (λ (xs : List Group). cond (not t) (g ∷ xs) xs) rest
+
+unflagged_by : (flags : List Bool) (gs : List Group) (test : Group → Bool) → length flags ≡ length gs
+    → ((i : ℕ) (g : Group) → slice_get gs i ≡ Some g → flag flags i ≡ test g) → flagged (map not flags) gs ≡ filter (λ g. not (test g)) gs
+unflagged_by [] [] test len is = refl
+unflagged_by [] (g ∷ gs) test len is = absurd (omega (arith, len))
+unflagged_by (f ∷ flags) [] test len is = refl
+unflagged_by (f ∷ flags) (g ∷ gs) test len is =
+    left_by f (test g) g (flagged (map not flags) gs) (filter (λ (x : Group). not (test x)) gs) (is 0 g refl)
+    (unflagged_by flags gs test (omega (arith, len)) (λ i h at. is (suc i) h at))
+
+pub unflagged_are_left : (gs : List Group) (flags : List Bool) → AreReaching gs flags [] → flagged (map not flags) gs ≡ unreached_of gs
+unflagged_are_left gs flags h = unflagged_by flags gs (begins_in (named_within gs (length gs))) h.len (flag_is gs flags h)
 
 pub flagged_are_reached : (gs : List Group) (flags : List Bool) → AreReaching gs flags [] → flagged flags gs ≡ reached_of gs
 flagged_are_reached gs flags h = flagged_by flags gs (begins_in (named_within gs (length gs))) h.len (flag_is gs flags h)

@@ -74,11 +74,11 @@ longer_front r used new before parts p h adds =
 front_fresh : (r : Reading) (before : List Pair) (p : Pair) → IsFront r (before ++ p ∷ []) → IsFresh r.count before p
 front_fresh r before p front = last_fresh r.count before p (record { within = front.within; once = front.once })
 
-held_more : (r : Reading) (before : List Pair) (p : Pair) (s : StoredPart) → r.part p ≡ Some s
+pub held_more : (r : Reading) (before : List Pair) (p : Pair) (s : StoredPart) → r.part p ≡ Some s
     → parts_held r (before ++ p ∷ []) ≡ parts_held r before ++ (p, s) ∷ []
 held_more r before p s read = flat_map-append _ before (p ∷ []) ∙ ap (λ (xs : List PairPart). parts_held r before ++ xs) (held_some r p [] s read)
 
-held_as_before : (r : Reading) (before : List Pair) (p : Pair) → r.part p ≡ None → parts_held r (before ++ p ∷ []) ≡ parts_held r before
+pub held_as_before : (r : Reading) (before : List Pair) (p : Pair) → r.part p ≡ None → parts_held r (before ++ p ∷ []) ≡ parts_held r before
 held_as_before r before p read =
     flat_map-append _ before (p ∷ []) ∙ ap (λ (xs : List PairPart). parts_held r before ++ xs) (held_none r p [] read)
     ∙ append-nil (parts_held r before)

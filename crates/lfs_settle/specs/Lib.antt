@@ -1,4 +1,5 @@
 pub mod ByDevice
+pub mod Ended
 pub mod Grouping
 pub mod InStep
 pub mod Laws

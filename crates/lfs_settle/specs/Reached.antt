@@ -1,5 +1,5 @@
 -- The directories of a thread that a path from the root leads to (SPEC.md, "0x200 directory struct").
-use Rattle.std.specs.Prelude.{ℕ, Bool, false, List, [], ◌∷◌, length, flat_map, zero, suc, if◌then◌else◌}
+use Rattle.std.specs.Prelude.{ℕ, Bool, false, List, [], ◌∷◌, length, flat_map, not, zero, suc, if◌then◌else◌}
 use Rattle.std.specs.List.{filter, list_any}
 use Rattle.lfs_meta.specs.Body.{Pair}
 use Rattle.lfs_meta.specs.Runs.{onto}
@@ -33,3 +33,7 @@ named_within gs (suc n) = named_by (filter (begins_in (named_within gs n)) gs)
 -- The directories that a path leads to. No path to a new one has more names than there are directories.
 abbrev pub reached_of : List (List PairPart) → List (List PairPart)
 reached_of gs = filter (begins_in (named_within gs (length gs))) gs
+
+-- and those that none leads to
+abbrev pub unreached_of : List (List PairPart) → List (List PairPart)
+unreached_of gs = filter (λ g. not (begins_in (named_within gs (length gs)) g)) gs

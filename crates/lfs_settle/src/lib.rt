@@ -3,6 +3,8 @@
 #![tactic(auto)]
 
 mod by_device;
+mod dropping;
+mod ended;
 mod groups;
 mod laws;
 mod lowering;
@@ -19,6 +21,7 @@ mod threading;
 mod within;
 
 pub use by_device::read_by_device;
+pub use ended::{DroppedDirectory, Ended, EndedMove, EndedStep};
 pub use groups::is_hard;
 pub use laws::{
     moved_entries_go, reached_directories_are_closed, relaid_images_hold_what_is_read,

@@ -1,11 +1,13 @@
 //! A move that a device began: its state, and the entry that it moved.
 
-ghost use Rattle.std.specs.Prelude.{◌≡◌, ◌==◌, ◌&&◌, ◌||◌, cond, count_by, length, map, nat_lt, not};
+ghost use Rattle.std.specs.Prelude.{◌≡◌, ◌==◌, ◌&&◌, ◌||◌, cond, count_by, length, map, nat_lt, not, slice_get};
 ghost use Rattle.std.specs.List.{list_all};
 ghost use Rattle.lfs_fs.specs.Gathering.{delta_from};
+ghost use Rattle.lfs_settle.specs.Ended.{first_moved, moved_in};
 ghost use Rattle.lfs_settle.specs.InStep.{has_block, meets};
 ghost use Rattle.lfs_settle.specs.Moved.{can_end, finds_moved, has_moved, means, unmoved, without_at};
 
+use crate::ended::EndedMove;
 use crate::state::State;
 use lfs_fs::Delta;
 use lfs_meta::{Entry, Part};
@@ -105,29 +107,37 @@ pub(crate) fn can_end(state: &State, parts: &[Part]) -> bool
 
 /// Takes the entry of a number out, if there is one.
 #[tactic(auto, using(crate::proofs::MovedEntry::without_removed, crate::proofs::MovedEntry::without_past))]
-fn remove_at(entries: &mut Vec<Entry>, number: usize)
-    ensures { entries.new.items ≡ without_at number entries.old.items }
+fn remove_at(entries: &mut Vec<Entry>, number: usize) -> Option<Entry>
+    ensures left { entries.new.items ≡ without_at number entries.old.items }
+    ensures taken { result ≡ slice_get entries.old.items number }
 {
     if number >= entries.len() {
-        return;
+        return None;
     }
-    let _moved = entries.remove(number);
+    Some(entries.remove(number))
 }
 
 /// Takes the moved entry out of a part, if it is the one that the move means.
-fn unmove_part(state: &State, part: &mut Part)
-    ensures { part.new ≡ unmoved state.now part.old }
+fn unmove_part(state: &State, part: &mut Part) -> Option<EndedMove>
+    ensures left { part.new ≡ unmoved state.now part.old }
+    ensures moved { result ≡ moved_in state.now part.old }
 {
-    if state.is_move() && means(state, part.pair) {
-        remove_at(&mut part.entries, state.moved_entry());
+    let pair = part.pair;
+    if state.is_move() && means(state, pair) {
+        let entry = remove_at(&mut part.entries, state.moved_entry())?;
+        return Some(EndedMove { pair, entry });
     }
+    None
 }
 
-/// Takes the moved entry out of parts.
-pub(crate) fn unmove(state: &State, parts: &mut Vec<Part>)
-    ensures { parts.new.items ≡ map (unmoved state.now) parts.old.items }
+/// Takes the moved entry out of parts, and hands out the first one.
+pub(crate) fn unmove(state: &State, parts: &mut Vec<Part>) -> Option<EndedMove>
+    ensures left { parts.new.items ≡ map (unmoved state.now) parts.old.items }
+    ensures moved { result ≡ first_moved state.now parts.old.items }
 {
+    let mut moved = None;
     for part in parts.iter_mut() {
-        unmove_part(state, part);
+        moved = moved.or(unmove_part(state, part));
     }
+    moved
 }

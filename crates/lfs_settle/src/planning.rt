@@ -5,11 +5,13 @@ ghost use Rattle.std.specs.List.{AllByRecursion, filter};
 ghost use Rattle.lfs_meta.specs.Complete.{IsComplete};
 ghost use Rattle.lfs_fs.specs.Gathering.{delta_from};
 ghost use Rattle.lfs_lower.specs.LaterReading.{later_reading_of};
+ghost use Rattle.lfs_settle.specs.Ended.{Ends, steps_of};
 ghost use Rattle.lfs_settle.specs.InStep.{has_thread, in_step, pairs_named, thread_pairs, thread_parts};
 ghost use Rattle.lfs_settle.specs.Moved.{can_end};
 ghost use Rattle.lfs_settle.specs.Planned.{IsPlan};
 ghost use Rattle.lfs_settle.specs.Settled.{can_settle, is_held, is_kept, same_tail};
 
+use crate::ended::Ended;
 use crate::moved::{can_end, state_of};
 use crate::pairs::pairs_named;
 use crate::settled_parts::settled_parts;
@@ -27,6 +29,8 @@ pub(crate) struct Plan {
     pub(crate) pairs: Vec<(u32, u32)>,
     /// The parts that some of them don't hold yet. They are put there.
     pub(crate) changed: Vec<Part>,
+    /// What is ended so.
+    pub(crate) ended: Ended,
 }
 
 // ---- parts that pairs hold already
@@ -107,21 +111,32 @@ fn can_be_ended(thread: &Thread) -> bool
     thread.is_whole && can_end(&state_of(&thread.parts), &thread.parts)
 }
 
-/// What settles an image of these parts along its thread in step, which is whole, and of a state that a device ends; `None` if a pair has
-/// no room for what it is to hold. Takes memory.
-fn ended<B: Blocks>(alloc: Global, blocks: &B, along: Vec<Part>) -> Result<Option<Plan>, AllocError>
-    requires along { along.items ≡ thread_parts (in_step (later_reading_of (B.disk blocks.now))) }
-    requires complete { All (λ p. AllByRecursion IsComplete p.1.entries) along.items }
-    requires ended { (has_thread (in_step (later_reading_of (B.disk blocks.now))) && can_end (delta_from along.items) along.items) ≡ true }
+/// What settles an image of this thread in step, which is whole and has a state that a device ends; `None` if a pair has no room for what it
+/// is to hold. Takes memory.
+fn ending_plan<B: Blocks>(
+    alloc: Global,
+    blocks: &B,
+    thread: Thread,
+) -> Result<Option<Plan>, AllocError>
+    requires along { thread.parts.items ≡ thread_parts (in_step (later_reading_of (B.disk blocks.now))) }
+    requires steps { thread.steps.items ≡ steps_of (later_reading_of (B.disk blocks.now)) }
+    requires complete { All (λ p. AllByRecursion IsComplete p.1.entries) thread.parts.items }
+    requires ended { (has_thread (in_step (later_reading_of (B.disk blocks.now)))
+        && can_end (delta_from thread.parts.items) thread.parts.items) ≡ true }
     ensures none { IfOk result (λ plan. IfNone plan
         (can_settle (later_reading_of (B.disk blocks.now)) (in_step (later_reading_of (B.disk blocks.now))) ≡ false)) }
     ensures some { IfOk result (λ plan. IfSome plan (λ p. IsPlan (B.disk blocks.now) p.pairs.items p.changed.items)) }
+    ensures ended { IfOk result (λ plan. IfSome plan (λ p. Ends (later_reading_of (B.disk blocks.now)) p.ended)) }
 {
-    let parts = settled_parts(alloc, along)?;
+    let (parts, ended) = settled_parts(alloc, thread.parts, thread.steps)?;
     let pairs = pairs_of(alloc, &parts)?;
     let changed = changed(alloc, blocks, parts)?;
     if all_can(&changed, blocks.size(), blocks.count()) {
-        return Ok(Some(Plan { pairs, changed }));
+        return Ok(Some(Plan {
+            pairs,
+            changed,
+            ended,
+        }));
     }
     Ok(None)
 }
@@ -144,15 +159,21 @@ fn as_it_stands<B: Blocks>(
 /// What settles an image: if its thread, each directory at the pair that its entry names, is whole, its state is one that a device ends,
 /// and there is room, what a device's next change leaves; else its thread as it stands. Takes memory.
 pub(crate) fn plan_of<B: Blocks>(alloc: Global, blocks: &B) -> Result<Plan, AllocError>
-    ensures { IfOk result (λ plan. IsPlan (B.disk blocks.now) plan.pairs.items plan.changed.items) }
+    ensures plan { IfOk result (λ plan. IsPlan (B.disk blocks.now) plan.pairs.items plan.changed.items) }
+    ensures ended { IfOk result (λ plan. Ends (later_reading_of (B.disk blocks.now)) plan.ended) }
 {
     let (pairs, steps) = as_it_stands(alloc, blocks)?;
     let thread = read_thread(alloc, blocks, &steps)?;
     if can_be_ended(&thread) {
-        if let Some(plan) = ended(alloc, blocks, thread.parts)? {
+        if let Some(plan) = ending_plan(alloc, blocks, thread)? {
             return Ok(plan);
         }
     }
     let changed = Vec::new(alloc);
-    Ok(Plan { pairs, changed })
+    let ended = Ended::nothing(alloc);
+    Ok(Plan {
+        pairs,
+        changed,
+        ended,
+    })
 }

@@ -1,11 +1,11 @@
 //! The directories that a path from the root leads to.
 
-ghost use Rattle.std.specs.Prelude.{◌≡◌, ◌<◌, IfOk, IfSome, List, OnOk, Some, cond, length, map};
+ghost use Rattle.std.specs.Prelude.{◌≡◌, ◌<◌, IfOk, IfSome, List, OnOk, Some, cond, length, map, not};
 ghost use Rattle.lfs_meta.specs.Body.{Pair};
 ghost use Rattle.lfs_fs.specs.DirectoryTable.{look_up};
 ghost use Rattle.lfs_fs.specs.Gathering.{PairPart};
 ghost use Rattle.lfs_fs.specs.Pair.{unordered};
-ghost use Rattle.lfs_settle.specs.Reached.{reached_of};
+ghost use Rattle.lfs_settle.specs.Reached.{reached_of, unreached_of};
 ghost use Rattle.lfs_settle.specs.Reaching.{AreApart, AreListed, FlagsNamed, FlagsOne, begins_with, flagged};
 
 use crate::pairs::{pairs_named, unordered};
@@ -89,6 +89,7 @@ fn flag_each(
 pub(crate) fn reached(alloc: Global, groups: &Vec<Vec<Part>>) -> Result<Vec<bool>, AllocError>
     requires { AreApart (map (λ g. g.items) groups.now.items) }
     ensures reached { IfOk result (λ flags. flagged flags.items (map (λ g. g.items) groups.now.items) ≡ reached_of (map (λ g. g.items) groups.now.items)) }
+    ensures left { IfOk result (λ flags. flagged (map not flags.items) (map (λ g. g.items) groups.now.items) ≡ unreached_of (map (λ g. g.items) groups.now.items)) }
     ensures len { IfOk result (λ flags. length flags.items ≡ length groups.now.items) }
 {
     let table = table_of(alloc, groups)?;

@@ -1,8 +1,11 @@
 //! An image settled: what a device left unfinished is ended.
 
-ghost use Rattle.std.specs.Prelude.{OnOk};
+ghost use Rattle.std.specs.Prelude.{IfOk, OnOk};
+ghost use Rattle.lfs_lower.specs.LaterReading.{later_reading_of};
+ghost use Rattle.lfs_settle.specs.Ended.{Ends};
 ghost use Rattle.lfs_settle.specs.Settled.{IsSettledImage};
 
+use crate::ended::Ended;
 use crate::lowering::lower_pairs;
 use crate::planning::plan_of;
 use lfs_block::{Blocks, Image};
@@ -14,14 +17,16 @@ use std::alloc::{AllocError, Global};
 /// thread, the moved entry is gone, and so are the directories that no path leads to, and no state is left. The pairs of the thread that
 /// stays are lowered, and all other blocks stay. In each of those pairs the live block keeps its place and its revision, and the one beside
 /// it is erased; a pair of which both versions read the same, and which holds its part already, stays as it is. If the thread isn't whole, the state isn't one that a device ends, or a pair has no room
-/// for what it is to hold, the thread is lowered as it stands, as far as its pairs are read. If memory is refused, some pairs may be
-/// rewritten, and the image is of no use. Takes memory.
-pub fn settle(alloc: Global, image: &mut Image) -> Result<(), AllocError>
-    ensures { OnOk result (IsSettledImage image.old.disk image.new.disk) }
+/// for what it is to hold, the thread is lowered as it stands, as far as its pairs are read. Says what is ended so. If memory is refused,
+/// some pairs may be rewritten, and the image is of no use. Takes memory.
+pub fn settle(alloc: Global, image: &mut Image) -> Result<Ended, AllocError>
+    ensures settled { OnOk result (IsSettledImage image.old.disk image.new.disk) }
+    ensures ended { IfOk result (λ ended. Ends (later_reading_of image.old.disk) ended) }
 {
     parts_depend_on_their_blocks();
     let _fits_the_limits = image.size();
     let plan = plan_of(alloc, image)?;
     lower_pairs(alloc, image, &plan.pairs)?;
-    put_parts(alloc, image, &plan.changed)
+    put_parts(alloc, image, &plan.changed)?;
+    Ok(plan.ended)
 }

@@ -3,6 +3,7 @@
 ghost use Rattle.std.specs.Prelude.{IfOk};
 ghost use Rattle.lfs_settle.specs.Steps.{FindsFirst};
 
+use crate::ended::EndedStep;
 use crate::pairs::same_blocks;
 use lfs_meta::{Part, Tail};
 use std::alloc::{AllocError, Global};
@@ -47,6 +48,7 @@ impl Model for Steps {
 
 impl Steps {
     ghost use Rattle.std.specs.Prelude.{◌≡◌, IfOk};
+    ghost use Rattle.lfs_settle.specs.Ended.{step_of, step_to};
     ghost use Rattle.lfs_settle.specs.InStep.{first_with, in_step_with, stepped_part, stepped_tail};
 
     /// Those of a list. Takes memory.
@@ -87,10 +89,34 @@ impl Steps {
         }
     }
 
-    /// Lets a part's tail lead there.
-    pub(crate) fn step(&self, part: &mut Part)
-        ensures { part.new ≡ (part.old.0, stepped_part self.now part.old.1) }
+    /// The step from a pair to the one that an entry names in its place, if that is another one.
+    fn step_from(&self, from: (u32, u32)) -> Option<EndedStep>
+        ensures { result ≡ step_to from (in_step_with self.now from) }
     {
+        let to = self.pair(from);
+        if same_blocks(from, to) {
+            return None;
+        }
+        Some(EndedStep { from, to })
+    }
+
+    /// The step of a tail.
+    fn step_of(&self, tail: Tail) -> Option<EndedStep>
+        ensures { result ≡ step_of self.now tail }
+    {
+        match tail {
+            Tail::Soft(first, second) => self.step_from((first, second)),
+            _ => None,
+        }
+    }
+
+    /// Lets a part's tail lead there, and says which step that is, if it led elsewhere.
+    pub(crate) fn step(&self, part: &mut Part) -> Option<EndedStep>
+        ensures part { part.new ≡ (part.old.0, stepped_part self.now part.old.1) }
+        ensures step { result ≡ step_of self.now part.old.1.tail }
+    {
+        let step = self.step_of(part.tail);
         part.tail = self.tail(part.tail);
+        step
     }
 }

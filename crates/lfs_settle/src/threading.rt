@@ -1,10 +1,13 @@
 //! The thread of the directories that stay.
 
-ghost use Rattle.std.specs.Prelude.{◌≡◌, IfOk, OnOk, cond, length, map};
+ghost use Rattle.std.specs.Prelude.{◌≡◌, ◌++◌, [], IfOk, OnOk, cond, flat_map, length, map, not};
+ghost use Rattle.lfs_settle.specs.Ended.{as_dropped};
 ghost use Rattle.lfs_settle.specs.Reaching.{flagged};
 ghost use Rattle.lfs_settle.specs.Settled.{cleared, ending, threaded, without_share};
 ghost use Rattle.lfs_settle.specs.Threading.{put_after};
 
+use crate::dropping::push_dropped;
+use crate::ended::DroppedDirectory;
 use crate::moved::state_of;
 use lfs_meta::{Part, Tail};
 use std::alloc::{AllocError, Global};
@@ -33,32 +36,41 @@ fn put_after(thread: &mut Vec<Part>, group: Vec<Part>) -> Result<(), AllocError>
     Ok(())
 }
 
-/// Does so if the directory stays. Takes memory.
-fn put_if(thread: &mut Vec<Part>, group: Vec<Part>, stays: bool) -> Result<(), AllocError>
-    ensures { OnOk result (thread.new.items ≡ cond stays (put_after thread.old.items group.items) thread.old.items) }
+/// Does so if the directory stays, and else puts it after those that are dropped. Takes memory.
+fn put_or_drop(
+    alloc: Global,
+    thread: &mut Vec<Part>,
+    dropped: &mut Vec<DroppedDirectory>,
+    group: Vec<Part>,
+    stays: bool,
+) -> Result<(), AllocError>
+    ensures thread { OnOk result (thread.new.items ≡ cond stays (put_after thread.old.items group.items) thread.old.items) }
+    ensures dropped { OnOk result (dropped.new.items ≡ dropped.old.items ++ cond stays [] (as_dropped group.items)) }
 {
     if stays {
-        put_after(thread, group)?;
+        return put_after(thread, group);
     }
-    Ok(())
+    push_dropped(alloc, dropped, group)
 }
 
-/// The directories that have a flag, as one thread. Takes memory.
+/// The directories that have a flag, as one thread, and those that have none. Takes memory.
 pub(crate) fn threaded(
     alloc: Global,
     groups: Vec<Vec<Part>>,
     flags: &[bool],
-) -> Result<Vec<Part>, AllocError>
+) -> Result<(Vec<Part>, Vec<DroppedDirectory>), AllocError>
     requires { length flags.now ≡ length groups.items }
-    ensures { IfOk result (λ thread. thread.items ≡ threaded (flagged flags.now (map (λ g. g.items) groups.items))) }
+    ensures thread { IfOk result (λ made. made.0.items ≡ threaded (flagged flags.now (map (λ g. g.items) groups.items))) }
+    ensures dropped { IfOk result (λ made. made.1.items ≡ flat_map as_dropped (flagged (map not flags.now) (map (λ g. g.items) groups.items))) }
 {
     let mut thread = Vec::new(alloc);
+    let mut dropped = Vec::new(alloc);
     let mut number = 0;
     'each: for group in groups {
-        put_if(&mut thread, group, flags[number])?;
+        put_or_drop(alloc, &mut thread, &mut dropped, group, flags[number])?;
         number += 1;
     }
-    Ok(thread)
+    Ok((thread, dropped))
 }
 
 // ---- the shares

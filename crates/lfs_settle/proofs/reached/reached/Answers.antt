@@ -7,7 +7,7 @@ use Rattle.lfs_fs.specs.Gathering.{PairPart}
 use Rattle.lfs_fs.proofs.ItemLemmas.{no_elements}
 use Rattle.lfs_settle.specs.InStep.{pairs_named}
 use Rattle.lfs_settle.specs.Reaching.{AreListed, AreReaching, FlagsNamed}
-use Rattle.lfs_settle.proofs.Reaching.{flagged_are_reached, listed_within, reaching_more, reaching_start, waits_within}
+use Rattle.lfs_settle.proofs.Reaching.{flagged_are_reached, listed_within, reaching_more, reaching_start, unflagged_are_left, waits_within}
 use Rattle.lfs_settle.proofs.reached.reached.Goals as goal
 
 got_mapped : {X Y : Type 0} (f : X → Y) (xs : List X) (i : ℕ) (x : X) → i < length xs → x ≡ get_or xs i x → slice_get (map f xs) i ≡ Some (f x)
@@ -77,5 +77,11 @@ walk-preserved c =
 pub returns-clause-reached : goal.returns-clause-reached
 returns-clause-reached c =
     flagged_are_reached _ c.walk.reached.items
+    (reaching_at _ c.walk.reached.items c.walk.waiting.items []
+    (no_elements c.walk.waiting.items (omega (arith, c.in_default.ensures.cases.0, c.walk.waiting.ok))) c.walk.invariant)
+
+pub returns-clause-left : goal.returns-clause-left
+returns-clause-left c =
+    unflagged_are_left _ c.walk.reached.items
     (reaching_at _ c.walk.reached.items c.walk.waiting.items []
     (no_elements c.walk.waiting.items (omega (arith, c.in_default.ensures.cases.0, c.walk.waiting.ok))) c.walk.invariant)

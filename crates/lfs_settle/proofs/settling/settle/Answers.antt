@@ -1,7 +1,6 @@
 -- The pairs of the plan are lowered, and its parts are put.
 use Rattle.std.proofs.Common.{◌<◌, ◌≤◌, List, map, sym, subst}
 use Rattle.std.specs.Prelude.{All}
-use Rattle.std.proofs.lemmas.Result.{IfOk-weaker}
 use Rattle.lfs_block.specs.Disk.{Disk}
 use Rattle.lfs_meta.specs.Body.{Pair}
 use Rattle.lfs_fs.specs.Front.{pairs_name}
@@ -13,34 +12,33 @@ use Rattle.lfs_settle.proofs.settling.settle.Goals as goal
 
 pub lower_pairs-requires-clause-within : goal.lower_pairs-requires-clause-within
 lower_pairs-requires-clause-within c = λ b some.
-    planned_within c.args.image.now.disk c.in_ok-plan.plan.pairs.items c.in_ok-plan.plan.changed.items c.in_ok-plan.ensures b
+    planned_within c.args.image.now.disk c.in_ok-plan.plan.pairs.items c.in_ok-plan.plan.changed.items c.in_ok-plan.ensures.plan b
     (subst (λ (ps : List Pair). 0 < pairs_name b ps) c.deref.ensures.value some)
 
 pub lower_pairs-requires-clause-apart : goal.lower_pairs-requires-clause-apart
 lower_pairs-requires-clause-apart c = λ b.
     subst (λ (ps : List Pair). pairs_name b ps ≤ 1) (sym c.deref.ensures.value)
-    (planned_once c.args.image.now.disk c.in_ok-plan.plan.pairs.items c.in_ok-plan.plan.changed.items c.in_ok-plan.ensures b)
+    (planned_once c.args.image.now.disk c.in_ok-plan.plan.pairs.items c.in_ok-plan.plan.changed.items c.in_ok-plan.ensures.plan b)
 
 pub put_parts-requires-clause-can : goal.put_parts-requires-clause-can
 put_parts-requires-clause-can c =
     let m : Disk = c.lower_pairs.new.image.disk in
     subst (All (CanPut m)) (sym c.deref-2.ensures.value)
-    (still_can c.args.image.now.disk c.in_ok-plan.plan.pairs.items c.in_ok-plan.plan.changed.items c.in_ok-plan.ensures m
+    (still_can c.args.image.now.disk c.in_ok-plan.plan.pairs.items c.in_ok-plan.plan.changed.items c.in_ok-plan.ensures.plan m
     c.in_ok-lower_pairs.ensures.size c.in_ok-lower_pairs.ensures.count)
 
 pub put_parts-requires-clause-apart : goal.put_parts-requires-clause-apart
 put_parts-requires-clause-apart c = λ b.
     subst (λ (ps : List PairPart). pairs_name b (map (λ (p : PairPart). p.0) ps) ≤ 1) (sym c.deref-2.ensures.value)
-    (put_once c.args.image.now.disk c.in_ok-plan.plan.pairs.items c.in_ok-plan.plan.changed.items c.in_ok-plan.ensures b)
+    (put_once c.args.image.now.disk c.in_ok-plan.plan.pairs.items c.in_ok-plan.plan.changed.items c.in_ok-plan.ensures.plan b)
 
-pub returns : goal.returns
-returns c =
+pub returns-clause-settled : goal.returns-clause-settled
+returns-clause-settled c =
     let d : Disk = c.args.image.now.disk in
     let m : Disk = c.lower_pairs.new.image.disk in
     let pairs : List Pair = c.in_ok-plan.plan.pairs.items in
     let changed : List PairPart = c.in_ok-plan.plan.changed.items in
     let low : ArePairsLowered d m pairs = subst (ArePairsLowered d m) c.deref.ensures.value c.in_ok-lower_pairs.ensures in
-    IfOk-weaker c.put_parts.result _ _ (λ done put.
     planned_image c.parts_depend_on_their_blocks.ensures d m c.put_parts.new.image.disk
-    pairs changed c.in_ok-plan.ensures low
-    (subst (ArePartsPut m c.put_parts.new.image.disk) c.deref-2.ensures.value put)) c.put_parts.ensures
+    pairs changed c.in_ok-plan.ensures.plan low
+    (subst (ArePartsPut m c.put_parts.new.image.disk) c.deref-2.ensures.value c.in_ok-put_parts.ensures)
