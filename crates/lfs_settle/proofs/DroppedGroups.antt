@@ -21,8 +21,8 @@ drop_by true fs dropped g gs = ap (λ (xs : Told). xs ++ told fs gs) (append-nil
 drop_by false fs dropped g gs = append_assoc dropped (as_dropped g) (told fs gs)
 
 -- one directory more
-pub drop_next : (flags : List Bool) (number : ℕ) (all dropped new : Told) (g : List PairPart) (gs : List (List PairPart)) → number < length flags
-    → new ≡ dropped ++ cond (slice_index_or flags number false) [] (as_dropped g)
+pub drop_next : (flags : List Bool) (number : ℕ) (all dropped new : Told) (g : List PairPart) (gs : List (List PairPart))
+    → number < length flags → new ≡ dropped ++ cond (slice_index_or flags number false) [] (as_dropped g)
     → dropped ++ told (drop number flags) (g ∷ gs) ≡ all → new ++ told (drop (suc number) flags) gs ≡ all
 drop_next flags number all dropped new g gs within is before =
     ap (λ (xs : Told). xs ++ told (drop (suc number) flags) gs) is

@@ -6,6 +6,7 @@ pub mod InStepStays
 pub mod PairsLowered
 pub mod MovedEntry
 pub mod NextItems
+pub mod NothingEnded
 pub mod PartLists
 pub mod ReachedGroups
 pub mod Reaching

@@ -17,8 +17,8 @@ module _ (named : List Pair) (r : Reading) where
   steps_none steps ps none no_pair = none ∙ ap (λ (qs : List Pair). steps_in named (parts_held r qs)) (sym no_pair)
 
   -- no pair follows
-  pub steps_all : (steps : List (Pair × Pair)) (ps : List Pair) → steps ≡ steps_in named (parts_held r ps) → ps ≡ thread_pairs (stepping named r)
-      → steps ≡ steps_along named r
+  pub steps_all : (steps : List (Pair × Pair)) (ps : List Pair) → steps ≡ steps_in named (parts_held r ps)
+      → ps ≡ thread_pairs (stepping named r) → steps ≡ steps_along named r
   steps_all steps ps is all = is ∙ ap (λ (qs : List Pair). steps_in named (parts_held r qs)) all
 
   -- a pair that isn't read has no step

@@ -16,7 +16,8 @@ module _ (r : Reading) (ended : Ended) where
     steps = steps ∙ ap (λ (b : Bool). if b then steps_of r else []) (sym can);
   }
 
-  pub ends_nothing : can_settle r (in_step r) ≡ false → ended.moved ≡ None → ended.dropped.items ≡ [] → ended.steps.items ≡ [] → Ends r ended
+  pub ends_nothing : can_settle r (in_step r) ≡ false → ended.moved ≡ None → ended.dropped.items ≡ [] → ended.steps.items ≡ []
+      → Ends r ended
   ends_nothing can moved dropped steps = record {
     moved = moved ∙ ap (λ (b : Bool). if b then moved_of (thread_parts (in_step r)) else None) (sym can);
     dropped = dropped ∙ ap (λ (b : Bool). if b then dropped_of (thread_parts (in_step r)) else []) (sym can);

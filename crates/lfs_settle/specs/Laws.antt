@@ -11,9 +11,11 @@ use Rattle.lfs_fs.specs.Sound.{IsSound}
 use Rattle.lfs_fs.specs.Thread.{next}
 use Rattle.lfs_fs.specs.Volume.{Volume}
 use Rattle.std.specs.List.{filter}
+use Rattle.lfs_settle.specs.Ended.{dropped_of, moved_of, steps_of}
+use Rattle.lfs_settle.specs.InStep.{has_thread, in_step, thread_parts}
 use Rattle.lfs_settle.specs.Moved.{is_move, means, moved_entry, unmoved}
 use Rattle.lfs_settle.specs.Reached.{begins_in, groups, named_by, named_within, reached_of}
-use Rattle.lfs_settle.specs.Settled.{IsSettledImage, settled, settled_parts, settled_reading_of}
+use Rattle.lfs_settle.specs.Settled.{IsSettledImage, cleared, settled, settled_parts, settled_reading_of}
 
 -- ---- lists of parts
 
@@ -52,6 +54,14 @@ MovedEntryGoes = (state : ℕ) (p : PairPart) (before : List StoredEntry) (x : S
 -- the law: all other parts stay
 abbrev pub OthersStay : Type 0
 OthersStay = (state : ℕ) (p : PairPart) → (is_move state && means state p.0) ≡ false → unmoved state p ≡ p
+
+-- ---- what is ended
+
+-- the law: if no entry was moved, no directory is dropped and no tail takes a step, then the parts of a whole thread stay, but for their
+-- shares of the state
+abbrev pub NothingEndedStays : Type 0
+NothingEndedStays = (r : Reading) → has_thread (in_step r) ≡ true → moved_of (thread_parts (in_step r)) ≡ None
+    → dropped_of (thread_parts (in_step r)) ≡ [] → steps_of r ≡ [] → settled_parts (thread_parts (in_step r)) ≡ cleared (thread_parts r)
 
 -- ---- directories that are reached
 

@@ -1,7 +1,7 @@
 //! Laws of settled images: each function does nothing but call laws, and its contract is the law.
 
 ghost use Rattle.lfs_settle.specs.Relaid.{RelaidImagesHoldWhatIsRead};
-ghost use Rattle.lfs_settle.specs.Laws.{ClosedAreReached, MovedEntryGoes, NamedAreReached, OthersStay, SettledAreLinked, SettledHaveNoState, SettledImagesHoldWhatIsRead, SettledNameNoMore, SettledStay, SettledStays};
+ghost use Rattle.lfs_settle.specs.Laws.{ClosedAreReached, MovedEntryGoes, NamedAreReached, NothingEndedStays, OthersStay, SettledAreLinked, SettledHaveNoState, SettledImagesHoldWhatIsRead, SettledNameNoMore, SettledStay, SettledStays};
 
 use lfs_file::chains_stay_on_their_blocks;
 use lfs_fs::{both_sides_hold, same_readings_hold_the_same, stored_links_stay};
@@ -18,6 +18,11 @@ pub fn settled_parts_are_a_thread()
     ensures named { SettledNameNoMore }
     ensures no_state { SettledHaveNoState }
     ensures stay { SettledStay }
+{}
+
+/// A law: if nothing is ended, the parts of the thread stay, but for their shares of the state.
+pub fn nothing_ended_stays()
+    ensures { NothingEndedStays }
 {}
 
 /// A law: directories that paths of any length lead to are reached, and some directories that paths lead to, whose entries name no other

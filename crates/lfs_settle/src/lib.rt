@@ -24,8 +24,9 @@ pub use by_device::read_by_device;
 pub use ended::{DroppedDirectory, Ended, EndedMove, EndedStep};
 pub use groups::is_hard;
 pub use laws::{
-    moved_entries_go, reached_directories_are_closed, relaid_images_hold_what_is_read,
-    settled_images_hold_what_is_read, settled_parts_are_a_thread, settled_stays,
+    moved_entries_go, nothing_ended_stays, reached_directories_are_closed,
+    relaid_images_hold_what_is_read, settled_images_hold_what_is_read, settled_parts_are_a_thread,
+    settled_stays,
 };
 pub use moved::have_no_state;
 pub use planning::{is_kept, push_unless};

@@ -111,8 +111,8 @@ fn can_be_ended(thread: &Thread) -> bool
     thread.is_whole && can_end(&state_of(&thread.parts), &thread.parts)
 }
 
-/// What settles an image of this thread in step, which is whole and has a state that a device ends; `None` if a pair has no room for what it
-/// is to hold. Takes memory.
+/// What settles an image of this thread in step, which is whole and has a state that a device ends; `None` if a pair has no room for what
+/// it is to hold. Takes memory.
 fn ending_plan<B: Blocks>(
     alloc: Global,
     blocks: &B,
@@ -157,7 +157,7 @@ fn as_it_stands<B: Blocks>(
 }
 
 /// What settles an image: if its thread, each directory at the pair that its entry names, is whole, its state is one that a device ends,
-/// and there is room, what a device's next change leaves; else its thread as it stands. Takes memory.
+/// and there is room, what a device's next change leaves; else its thread as it stands. With what is ended so. Takes memory.
 pub(crate) fn plan_of<B: Blocks>(alloc: Global, blocks: &B) -> Result<Plan, AllocError>
     ensures plan { IfOk result (λ plan. IsPlan (B.disk blocks.now) plan.pairs.items plan.changed.items) }
     ensures ended { IfOk result (λ plan. Ends (later_reading_of (B.disk blocks.now)) plan.ended) }

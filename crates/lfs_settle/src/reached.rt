@@ -89,7 +89,8 @@ fn flag_each(
 pub(crate) fn reached(alloc: Global, groups: &Vec<Vec<Part>>) -> Result<Vec<bool>, AllocError>
     requires { AreApart (map (λ g. g.items) groups.now.items) }
     ensures reached { IfOk result (λ flags. flagged flags.items (map (λ g. g.items) groups.now.items) ≡ reached_of (map (λ g. g.items) groups.now.items)) }
-    ensures left { IfOk result (λ flags. flagged (map not flags.items) (map (λ g. g.items) groups.now.items) ≡ unreached_of (map (λ g. g.items) groups.now.items)) }
+    ensures left { IfOk result (λ flags. flagged (map not flags.items) (map (λ g. g.items) groups.now.items)
+        ≡ unreached_of (map (λ g. g.items) groups.now.items)) }
     ensures len { IfOk result (λ flags. length flags.items ≡ length groups.now.items) }
 {
     let table = table_of(alloc, groups)?;

@@ -14,11 +14,12 @@ use lfs_meta::parts_depend_on_their_blocks;
 use std::alloc::{AllocError, Global};
 
 /// Settles an image, as the next change of a device does, and lowers it to version 2.0: the pairs that entries name are those of the
-/// thread, the moved entry is gone, and so are the directories that no path leads to, and no state is left. The pairs of the thread that
-/// stays are lowered, and all other blocks stay. In each of those pairs the live block keeps its place and its revision, and the one beside
-/// it is erased; a pair of which both versions read the same, and which holds its part already, stays as it is. If the thread isn't whole, the state isn't one that a device ends, or a pair has no room
-/// for what it is to hold, the thread is lowered as it stands, as far as its pairs are read. Says what is ended so. If memory is refused,
-/// some pairs may be rewritten, and the image is of no use. Takes memory.
+/// thread, the moved entry is gone, and so are the directories that no path leads to, and no state is left. Says what it ended: the move,
+/// these directories, and the tails that led elsewhere than an entry. The pairs of the thread that stays are lowered, and all other blocks
+/// stay. In each of those pairs the live block keeps its place and its revision, and the one beside it is erased; a pair of which both
+/// versions read the same, and which holds its part already, stays as it is. If the thread isn't whole, the state isn't one that a device
+/// ends, or a pair has no room for what it is to hold, the thread is lowered as it stands, as far as its pairs are read, and nothing is
+/// ended. If memory is refused, some pairs may be rewritten, and the image is of no use. Takes memory.
 pub fn settle(alloc: Global, image: &mut Image) -> Result<Ended, AllocError>
     ensures settled { OnOk result (IsSettledImage image.old.disk image.new.disk) }
     ensures ended { IfOk result (λ ended. Ends (later_reading_of image.old.disk) ended) }

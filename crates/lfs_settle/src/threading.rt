@@ -61,7 +61,8 @@ pub(crate) fn threaded(
 ) -> Result<(Vec<Part>, Vec<DroppedDirectory>), AllocError>
     requires { length flags.now ≡ length groups.items }
     ensures thread { IfOk result (λ made. made.0.items ≡ threaded (flagged flags.now (map (λ g. g.items) groups.items))) }
-    ensures dropped { IfOk result (λ made. made.1.items ≡ flat_map as_dropped (flagged (map not flags.now) (map (λ g. g.items) groups.items))) }
+    ensures dropped { IfOk result (λ made. made.1.items
+        ≡ flat_map as_dropped (flagged (map not flags.now) (map (λ g. g.items) groups.items))) }
 {
     let mut thread = Vec::new(alloc);
     let mut dropped = Vec::new(alloc);

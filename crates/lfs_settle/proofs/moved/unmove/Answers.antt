@@ -22,12 +22,14 @@ loop-part-preserved c =
     record {
       left = ap (λ (x : PairPart). slice_set c.loop-part.part-items c.loop-part.part-index x)
           (c.unmove_part.ensures.left ∙ ap (unmoved state) (sym c.part-item.is))
-          ∙ map_over_more (unmoved state) parts c.loop-part.part-items c.loop-part.part-index p within c.loop-part.invariant.left c.part-item.is;
+          ∙ map_over_more (unmoved state) parts c.loop-part.part-items c.loop-part.part-index p within c.loop-part.invariant.left
+          c.part-item.is;
       moved = c.or-moved.ensures
           ∙ ap (option_or c.loop-part.moved) (c.unmove_part.ensures.moved ∙ ap (moved_in state) (sym c.part-item.is))
           ∙ ap (λ (o : Option (Pair × StoredEntry)). option_or o (moved_in state p)) c.loop-part.invariant.moved
           ∙ first_moved_more state parts c.loop-part.part-index p within
-          (read_over (unmoved state) parts c.loop-part.part-items c.loop-part.part-index p within c.loop-part.invariant.left c.part-item.is);
+          (read_over (unmoved state) parts c.loop-part.part-items c.loop-part.part-index p within c.loop-part.invariant.left
+          c.part-item.is);
     }
 
 pub returns-clause-moved : goal.returns-clause-moved

@@ -61,15 +61,16 @@ pub returns-then-all_can-clause-some : goal.returns-then-all_can-clause-some
 returns-then-all_can-clause-some g c =
     let d : Disk = g.B.Blocks.disk c.args.blocks.now in
     let can = can_is d c.args.thread.parts.items c.in_ok-parts.parts.items c.in_ok-changed.changed.items c.deref-2.result.now c.size.result
-    c.count.result c.all_can.result c.requires.along c.requires.ended c.in_ok-parts.ensures.parts c.in_ok-changed.ensures c.deref-2.ensures.value
+    c.count.result c.all_can.result c.requires.along c.requires.ended c.in_ok-parts.ensures.parts
+    c.in_ok-changed.ensures c.deref-2.ensures.value
     c.size.ensures.value c.count.ensures c.all_can.ensures in
-    let changed = changed_by d c.args.thread.parts.items c.in_ok-parts.parts.items c.in_ok-changed.changed.items c.requires.along c.in_ok-parts.ensures.parts
-    c.in_ok-changed.ensures in
+    let changed = changed_by d c.args.thread.parts.items c.in_ok-parts.parts.items c.in_ok-changed.changed.items c.requires.along
+    c.in_ok-parts.ensures.parts c.in_ok-changed.ensures in
     settling_plan d c.in_ok-pairs.pairs.items c.in_ok-changed.changed.items (sym can ∙ c.if-all_can.true)
     (c.in_ok-pairs.ensures
     ∙ ap (map (λ (p : PairPart). p.0)) (c.deref.ensures.value ∙ c.in_ok-parts.ensures.parts ∙ ap settled_parts c.requires.along)) changed
-    (can_put_all d c.in_ok-changed.changed.items c.args.thread.parts.items c.size.result c.count.result changed c.size.ensures.value c.count.ensures
-    c.requires.along c.requires.complete
+    (can_put_all d c.in_ok-changed.changed.items c.args.thread.parts.items c.size.result c.count.result changed
+    c.size.ensures.value c.count.ensures c.requires.along c.requires.complete
     (ap (λ (ps : List PairPart). list_all (λ p. can_be_put c.size.result c.count.result p.1) ps) (sym c.deref-2.ensures.value)
     ∙ sym c.all_can.ensures ∙ c.if-all_can.true))
 
@@ -77,7 +78,8 @@ pub returns-then-all_can-clause-ended : goal.returns-then-all_can-clause-ended
 returns-then-all_can-clause-ended g c =
     let d : Disk = g.B.Blocks.disk c.args.blocks.now in
     let can = can_is d c.args.thread.parts.items c.in_ok-parts.parts.items c.in_ok-changed.changed.items c.deref-2.result.now c.size.result
-    c.count.result c.all_can.result c.requires.along c.requires.ended c.in_ok-parts.ensures.parts c.in_ok-changed.ensures c.deref-2.ensures.value
+    c.count.result c.all_can.result c.requires.along c.requires.ended c.in_ok-parts.ensures.parts
+    c.in_ok-changed.ensures c.deref-2.ensures.value
     c.size.ensures.value c.count.ensures c.all_can.ensures in
     ends_so (later_reading_of d) c.in_ok-parts.ended (sym can ∙ c.if-all_can.true)
     (c.in_ok-parts.ensures.moved ∙ ap moved_of c.requires.along) (c.in_ok-parts.ensures.dropped ∙ ap dropped_of c.requires.along)
@@ -87,5 +89,6 @@ pub returns-clause-none : goal.returns-clause-none
 returns-clause-none g c =
     let d : Disk = g.B.Blocks.disk c.args.blocks.now in
     sym (can_is d c.args.thread.parts.items c.in_ok-parts.parts.items c.in_ok-changed.changed.items c.deref-2.result.now c.size.result
-    c.count.result c.all_can.result c.requires.along c.requires.ended c.in_ok-parts.ensures.parts c.in_ok-changed.ensures c.deref-2.ensures.value
+    c.count.result c.all_can.result c.requires.along c.requires.ended c.in_ok-parts.ensures.parts
+    c.in_ok-changed.ensures c.deref-2.ensures.value
     c.size.ensures.value c.count.ensures c.all_can.ensures) ∙ c.if-all_can.false

@@ -40,11 +40,13 @@ returns g c =
     let cannot : can_settle r (in_step r) ≡ false = elim c.if-can_be_ended.branch [
       | then-can_be_ended+in_ok-plan+in_default w ↦ subst (λ (o : Option Plan). IfNone o (can_settle r (in_step r) ≡ false)) w.in_default.is
           w.in_ok-plan.ensures.none
-      | else-can_be_ended w ↦ and_left (has_thread (in_step r) && can_end (delta_from (thread_parts (in_step r))) (thread_parts (in_step r)))
+      | else-can_be_ended w ↦ and_left
+          (has_thread (in_step r) && can_end (delta_from (thread_parts (in_step r))) (thread_parts (in_step r)))
           (list_all (λ p. can_hold r p) (settled_parts (thread_parts (in_step r)))) (sym ended ∙ w.if-can_be_ended.false)
     ] in
     record {
-      plan = lowering_plan d c.in_ok-pairs.pairs.items c.new-changed.result.items cannot c.in_ok-pairs.ensures.pairs c.new-changed.ensures.items;
+      plan = lowering_plan d c.in_ok-pairs.pairs.items c.new-changed.result.items cannot c.in_ok-pairs.ensures.pairs
+          c.new-changed.ensures.items;
       ended = ends_nothing r c.nothing-ended.result cannot c.nothing-ended.ensures.moved c.nothing-ended.ensures.dropped
           c.nothing-ended.ensures.steps;
     }

@@ -28,7 +28,8 @@ walk-init g c =
           c.nothing_read-thread.result.parts.items
           (c.as_mut_slice-table.ensures.value ∙ c.in_ok-used.ensures.items_if_clones_equal (λ y same. same)
           ∙ ap (λ n. replicate n false) c.count.ensures) none.pairs none.parts;
-      steps = steps_none named before c.nothing_read-thread.result.steps.items c.nothing_read-thread.result.pairs.items none.steps none.pairs;
+      steps = steps_none named before c.nothing_read-thread.result.steps.items c.nothing_read-thread.result.pairs.items none.steps
+          none.pairs;
       cut = none.whole;
     }
 
@@ -38,7 +39,8 @@ returns-then-is_err-clause-pairs g c =
     let refused = refused_by c.mark_all.result (λ fault. AreTaken fault c.walk.table (c.in-Some.pair.0 ∷ c.in-Some.pair.1 ∷ []))
     (sym c.is_err.ensures.value ∙ c.if-is_err.true) c.mark_all.ensures.refused in
     (walked_taken r c.walk.table c.walk.thread.pairs.items c.walk.thread.parts.items c.in-Some.pair refused.0
-    (subst (λ (o : Option Pair). AreWalked r c.walk.table c.walk.thread.pairs.items c.walk.thread.parts.items o) c.in-Some.is c.walk.invariant.walked)
+    (subst (λ (o : Option Pair). AreWalked r c.walk.table c.walk.thread.pairs.items c.walk.thread.parts.items o) c.in-Some.is
+    c.walk.invariant.walked)
     refused.1).pairs_are
 
 pub returns-then-is_err-clause-parts : goal.returns-then-is_err-clause-parts
@@ -47,7 +49,8 @@ returns-then-is_err-clause-parts g c =
     let refused = refused_by c.mark_all.result (λ fault. AreTaken fault c.walk.table (c.in-Some.pair.0 ∷ c.in-Some.pair.1 ∷ []))
     (sym c.is_err.ensures.value ∙ c.if-is_err.true) c.mark_all.ensures.refused in
     (walked_taken r c.walk.table c.walk.thread.pairs.items c.walk.thread.parts.items c.in-Some.pair refused.0
-    (subst (λ (o : Option Pair). AreWalked r c.walk.table c.walk.thread.pairs.items c.walk.thread.parts.items o) c.in-Some.is c.walk.invariant.walked)
+    (subst (λ (o : Option Pair). AreWalked r c.walk.table c.walk.thread.pairs.items c.walk.thread.parts.items o) c.in-Some.is
+    c.walk.invariant.walked)
     refused.1).parts_are
 
 pub returns-then-is_err-clause-whole : goal.returns-then-is_err-clause-whole
@@ -56,7 +59,8 @@ returns-then-is_err-clause-whole g c =
     let refused = refused_by c.mark_all.result (λ fault. AreTaken fault c.walk.table (c.in-Some.pair.0 ∷ c.in-Some.pair.1 ∷ []))
     (sym c.is_err.ensures.value ∙ c.if-is_err.true) c.mark_all.ensures.refused in
     c.walk.invariant.cut ∙ (walked_taken r c.walk.table c.walk.thread.pairs.items c.walk.thread.parts.items c.in-Some.pair refused.0
-    (subst (λ (o : Option Pair). AreWalked r c.walk.table c.walk.thread.pairs.items c.walk.thread.parts.items o) c.in-Some.is c.walk.invariant.walked)
+    (subst (λ (o : Option Pair). AreWalked r c.walk.table c.walk.thread.pairs.items c.walk.thread.parts.items o) c.in-Some.is
+    c.walk.invariant.walked)
     refused.1).whole_is
 
 pub returns-then-is_err-clause-steps : goal.returns-then-is_err-clause-steps
@@ -67,7 +71,8 @@ returns-then-is_err-clause-steps g c =
     (sym c.is_err.ensures.value ∙ c.if-is_err.true) c.mark_all.ensures.refused in
     steps_all c.args.steps.now before c.walk.thread.steps.items c.walk.thread.pairs.items c.walk.invariant.steps
     (walked_taken r c.walk.table c.walk.thread.pairs.items c.walk.thread.parts.items c.in-Some.pair refused.0
-    (subst (λ (o : Option Pair). AreWalked r c.walk.table c.walk.thread.pairs.items c.walk.thread.parts.items o) c.in-Some.is c.walk.invariant.walked)
+    (subst (λ (o : Option Pair). AreWalked r c.walk.table c.walk.thread.pairs.items c.walk.thread.parts.items o) c.in-Some.is
+    c.walk.invariant.walked)
     refused.1).pairs_are
 
 pub later_part_at-requires-clause-first : goal.later_part_at-requires-clause-first
@@ -91,7 +96,8 @@ returns-in_default-2-clause-pairs g c =
     let marked = marked_by c.mark_all.result (AddsBlocks c.walk.table c.mark_all.new.used (c.in-Some.pair.0 ∷ c.in-Some.pair.1 ∷ []))
     (sym c.is_err.ensures.value ∙ c.if-is_err.false) c.mark_all.ensures.marked in
     let through = walked_unread r c.walk.table c.walk.thread.pairs.items c.walk.thread.parts.items c.in-Some.pair c.mark_all.new.used
-    (subst (λ (o : Option Pair). AreWalked r c.walk.table c.walk.thread.pairs.items c.walk.thread.parts.items o) c.in-Some.is c.walk.invariant.walked) marked
+    (subst (λ (o : Option Pair). AreWalked r c.walk.table c.walk.thread.pairs.items c.walk.thread.parts.items o) c.in-Some.is
+    c.walk.invariant.walked) marked
     (ap (option_map (stepped_part c.args.steps.now))
     (subst (λ (o : Option PairPart). IfNone o (before.part c.in-Some.pair ≡ None)) c.in_default-2.is c.in_ok-part.ensures.none)) in
     c.in_ok-push.ensures.items ∙ through.pairs_are
@@ -103,7 +109,8 @@ returns-in_default-2-clause-parts g c =
     let marked = marked_by c.mark_all.result (AddsBlocks c.walk.table c.mark_all.new.used (c.in-Some.pair.0 ∷ c.in-Some.pair.1 ∷ []))
     (sym c.is_err.ensures.value ∙ c.if-is_err.false) c.mark_all.ensures.marked in
     let through = walked_unread r c.walk.table c.walk.thread.pairs.items c.walk.thread.parts.items c.in-Some.pair c.mark_all.new.used
-    (subst (λ (o : Option Pair). AreWalked r c.walk.table c.walk.thread.pairs.items c.walk.thread.parts.items o) c.in-Some.is c.walk.invariant.walked) marked
+    (subst (λ (o : Option Pair). AreWalked r c.walk.table c.walk.thread.pairs.items c.walk.thread.parts.items o) c.in-Some.is
+    c.walk.invariant.walked) marked
     (ap (option_map (stepped_part c.args.steps.now))
     (subst (λ (o : Option PairPart). IfNone o (before.part c.in-Some.pair ≡ None)) c.in_default-2.is c.in_ok-part.ensures.none)) in
     through.parts_are
@@ -115,7 +122,8 @@ returns-in_default-2-clause-whole g c =
     let marked = marked_by c.mark_all.result (AddsBlocks c.walk.table c.mark_all.new.used (c.in-Some.pair.0 ∷ c.in-Some.pair.1 ∷ []))
     (sym c.is_err.ensures.value ∙ c.if-is_err.false) c.mark_all.ensures.marked in
     let through = walked_unread r c.walk.table c.walk.thread.pairs.items c.walk.thread.parts.items c.in-Some.pair c.mark_all.new.used
-    (subst (λ (o : Option Pair). AreWalked r c.walk.table c.walk.thread.pairs.items c.walk.thread.parts.items o) c.in-Some.is c.walk.invariant.walked) marked
+    (subst (λ (o : Option Pair). AreWalked r c.walk.table c.walk.thread.pairs.items c.walk.thread.parts.items o) c.in-Some.is
+    c.walk.invariant.walked) marked
     (ap (option_map (stepped_part c.args.steps.now))
     (subst (λ (o : Option PairPart). IfNone o (before.part c.in-Some.pair ≡ None)) c.in_default-2.is c.in_ok-part.ensures.none)) in
     c.walk.invariant.cut ∙ through.whole_is
@@ -127,7 +135,8 @@ returns-in_default-2-clause-steps g c =
     let marked = marked_by c.mark_all.result (AddsBlocks c.walk.table c.mark_all.new.used (c.in-Some.pair.0 ∷ c.in-Some.pair.1 ∷ []))
     (sym c.is_err.ensures.value ∙ c.if-is_err.false) c.mark_all.ensures.marked in
     let through = walked_unread r c.walk.table c.walk.thread.pairs.items c.walk.thread.parts.items c.in-Some.pair c.mark_all.new.used
-    (subst (λ (o : Option Pair). AreWalked r c.walk.table c.walk.thread.pairs.items c.walk.thread.parts.items o) c.in-Some.is c.walk.invariant.walked) marked
+    (subst (λ (o : Option Pair). AreWalked r c.walk.table c.walk.thread.pairs.items c.walk.thread.parts.items o) c.in-Some.is
+    c.walk.invariant.walked) marked
     (ap (option_map (stepped_part c.args.steps.now))
     (subst (λ (o : Option PairPart). IfNone o (before.part c.in-Some.pair ≡ None)) c.in_default-2.is c.in_ok-part.ensures.none)) in
     steps_unread c.args.steps.now before c.walk.thread.steps.items c.walk.thread.pairs.items c.in-Some.pair c.walk.invariant.steps
@@ -148,8 +157,10 @@ walk-preserved g c =
     subst (λ (o : Option PairPart). IfSome o (λ p. AllByRecursion IsComplete p.1.entries)) c.in-Some-2.is c.in_ok-part.ensures.complete in
     let marked = marked_by c.mark_all.result (AddsBlocks c.walk.table c.mark_all.new.used (pair.0 ∷ pair.1 ∷ []))
     (sym c.is_err.ensures.value ∙ c.if-is_err.false) c.mark_all.ensures.marked in
-    let more = walked_more r c.walk.table c.walk.thread.pairs.items c.walk.thread.parts.items pair c.mark_all.new.used (stepped_part named part.1)
-    (subst (λ (o : Option Pair). AreWalked r c.walk.table c.walk.thread.pairs.items c.walk.thread.parts.items o) c.in-Some.is c.walk.invariant.walked) marked
+    let more = walked_more r c.walk.table c.walk.thread.pairs.items c.walk.thread.parts.items pair c.mark_all.new.used
+    (stepped_part named part.1)
+    (subst (λ (o : Option Pair). AreWalked r c.walk.table c.walk.thread.pairs.items c.walk.thread.parts.items o) c.in-Some.is
+    c.walk.invariant.walked) marked
     (ap (option_map (stepped_part named)) found) complete in
     let stepped : c.step-step.new.part ≡ (pair, stepped_part named part.1) =
     c.step-step.ensures.part ∙ ap (λ (p : Pair). (p, stepped_part named part.1)) at in
@@ -170,19 +181,22 @@ pub returns-clause-pairs : goal.returns-clause-pairs
 returns-clause-pairs g c =
     let r = stepping c.args.steps.now (later_reading_of (g.B.Blocks.disk c.args.blocks.now)) in
     (walked_all r c.walk.table c.walk.thread.pairs.items c.walk.thread.parts.items
-    (subst (λ (o : Option Pair). AreWalked r c.walk.table c.walk.thread.pairs.items c.walk.thread.parts.items o) c.in_default.is c.walk.invariant.walked)).pairs_are
+    (subst (λ (o : Option Pair). AreWalked r c.walk.table c.walk.thread.pairs.items c.walk.thread.parts.items o) c.in_default.is
+    c.walk.invariant.walked)).pairs_are
 
 pub returns-clause-parts : goal.returns-clause-parts
 returns-clause-parts g c =
     let r = stepping c.args.steps.now (later_reading_of (g.B.Blocks.disk c.args.blocks.now)) in
     (walked_all r c.walk.table c.walk.thread.pairs.items c.walk.thread.parts.items
-    (subst (λ (o : Option Pair). AreWalked r c.walk.table c.walk.thread.pairs.items c.walk.thread.parts.items o) c.in_default.is c.walk.invariant.walked)).parts_are
+    (subst (λ (o : Option Pair). AreWalked r c.walk.table c.walk.thread.pairs.items c.walk.thread.parts.items o) c.in_default.is
+    c.walk.invariant.walked)).parts_are
 
 pub returns-clause-whole : goal.returns-clause-whole
 returns-clause-whole g c =
     let r = stepping c.args.steps.now (later_reading_of (g.B.Blocks.disk c.args.blocks.now)) in
     (walked_all r c.walk.table c.walk.thread.pairs.items c.walk.thread.parts.items
-    (subst (λ (o : Option Pair). AreWalked r c.walk.table c.walk.thread.pairs.items c.walk.thread.parts.items o) c.in_default.is c.walk.invariant.walked)).whole_is
+    (subst (λ (o : Option Pair). AreWalked r c.walk.table c.walk.thread.pairs.items c.walk.thread.parts.items o) c.in_default.is
+    c.walk.invariant.walked)).whole_is
 
 pub returns-clause-steps : goal.returns-clause-steps
 returns-clause-steps g c =
@@ -190,4 +204,5 @@ returns-clause-steps g c =
     let r = stepping c.args.steps.now before in
     steps_all c.args.steps.now before c.walk.thread.steps.items c.walk.thread.pairs.items c.walk.invariant.steps
     (walked_all r c.walk.table c.walk.thread.pairs.items c.walk.thread.parts.items
-    (subst (λ (o : Option Pair). AreWalked r c.walk.table c.walk.thread.pairs.items c.walk.thread.parts.items o) c.in_default.is c.walk.invariant.walked)).pairs_are
+    (subst (λ (o : Option Pair). AreWalked r c.walk.table c.walk.thread.pairs.items c.walk.thread.parts.items o) c.in_default.is
+    c.walk.invariant.walked)).pairs_are

@@ -10,7 +10,8 @@ use Rattle.lfs_settle.proofs.thread.read_thread.Given as goal
 
 abbrev pub invariant-walk : goal.invariant-walk
 invariant-walk g l = record {
-  walked : AreWalked (stepping l.steps (later_reading_of (g.B.Blocks.disk l.blocks))) l.table l.thread.pairs.items l.thread.parts.items l.next;
+  walked : AreWalked (stepping l.steps (later_reading_of (g.B.Blocks.disk l.blocks))) l.table l.thread.pairs.items
+      l.thread.parts.items l.next;
   steps : l.thread.steps.items ≡ steps_in l.steps (parts_held (later_reading_of (g.B.Blocks.disk l.blocks)) l.thread.pairs.items);
   cut : l.thread.is_whole ≡ false;
 }

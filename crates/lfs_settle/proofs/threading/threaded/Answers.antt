@@ -12,10 +12,10 @@ each-preserved c =
     record {
       counted = omega (arith, len, c.each.invariant.counted, c.in-Some.ensures.steps.1);
       numbered = omega (arith, len, c.each.invariant.numbered);
-      left = rw add-one (put_next c.args.flags.now c.each.number _ c.each.thread.items c.put_or_drop.new.thread.items c.in-Some.group.items _ within
-          c.in_ok-put_or_drop.ensures.thread (rw c.in-Some.ensures.steps.0 at c.each.invariant.left));
-      dropped = rw add-one (drop_next c.args.flags.now c.each.number _ c.each.dropped.items c.put_or_drop.new.dropped.items c.in-Some.group.items _
-          within c.in_ok-put_or_drop.ensures.dropped (rw c.in-Some.ensures.steps.0 at c.each.invariant.dropped));
+      left = rw add-one (put_next c.args.flags.now c.each.number _ c.each.thread.items c.put_or_drop.new.thread.items
+          c.in-Some.group.items _ within c.in_ok-put_or_drop.ensures.thread (rw c.in-Some.ensures.steps.0 at c.each.invariant.left));
+      dropped = rw add-one (drop_next c.args.flags.now c.each.number _ c.each.dropped.items c.put_or_drop.new.dropped.items
+          c.in-Some.group.items _ within c.in_ok-put_or_drop.ensures.dropped (rw c.in-Some.ensures.steps.0 at c.each.invariant.dropped));
     }
 
 pub returns-clause-thread : goal.returns-clause-thread

@@ -13,6 +13,7 @@ invariant-each l = record {
   numbered : l.number + length (into_iter_items l.group-iterator) ≡ length l.flags;
   left : put_all_after l.thread.items (flagged (drop l.number l.flags) (map (λ g. g.items) (into_iter_items l.group-iterator)))
       ≡ put_all_after [] (flagged l.flags (map (λ g. g.items) l.fn.groups.items));
-  dropped : l.dropped.items ++ flat_map as_dropped (flagged (map not (drop l.number l.flags)) (map (λ g. g.items) (into_iter_items l.group-iterator)))
+  dropped : l.dropped.items
+      ++ flat_map as_dropped (flagged (map not (drop l.number l.flags)) (map (λ g. g.items) (into_iter_items l.group-iterator)))
       ≡ flat_map as_dropped (flagged (map not l.flags) (map (λ g. g.items) l.fn.groups.items));
 }
