@@ -59,6 +59,13 @@ pub none_moved_in : (state : ℕ) (p : PairPart) → (is_move state && means sta
 none_moved_in state p other =
     ap (λ (b : Bool). if b then option_map (λ (e : StoredEntry). (p.0, e)) (slice_get p.1.entries (moved_entry state)) else None) other
 
+-- one that it means has that of its number
+pub moved_in_is : (state : ℕ) (p : PairPart) (x : StoredEntry) → (is_move state && means state p.0) ≡ true
+    → slice_get p.1.entries (moved_entry state) ≡ Some x → Some (p.0, x) ≡ moved_in state p
+moved_in_is state p x is at =
+    sym (ap (λ (b : Bool). if b then option_map (λ (e : StoredEntry). (p.0, e)) (slice_get p.1.entries (moved_entry state)) else None) is
+    ∙ ap (option_map (λ (e : StoredEntry). (p.0, e))) at)
+
 or_none : {X : Type 0} (o : Option X) → option_or o None ≡ o
 or_none None = refl
 or_none (Some x) = refl
