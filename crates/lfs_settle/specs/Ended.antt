@@ -1,4 +1,4 @@
--- What a device left unfinished, and what is ended of it (own).
+-- What is ended of what a device left unfinished (own).
 use Rattle.std.specs.Prelude.{ℕ, ◌≡◌, ◌&&◌, List, [], ◌∷◌, flat_map, map, slice_get, if◌then◌else◌}
 use Rattle.std.specs.Prelude.{Option, Some, None, option_map, option_to_list}
 use Rattle.std.specs.Option.{option_or}
@@ -17,16 +17,17 @@ use Rattle.lfs_settle.specs.Settled.{can_settle}
 
 -- ---- the entry that was moved
 
--- the entry that a move names, with the pair of its old place, if that is this part's
+-- the entry that a move names in a part, with the part's pair, if the move means it
 abbrev pub moved_in : ℕ → PairPart → Option (Pair × StoredEntry)
 moved_in state p =
     if is_move state && means state p.0 then option_map (λ e. (p.0, e)) (slice_get p.1.entries (moved_entry state)) else None
 
--- the first one that parts have
+-- the first one that is named in parts
 abbrev pub first_moved : ℕ → List PairPart → Option (Pair × StoredEntry)
 first_moved state [] = None
 first_moved state (p ∷ ps) = option_or (moved_in state p) (first_moved state ps)
 
+-- the one that the state of parts names in them
 abbrev pub moved_of : List PairPart → Option (Pair × StoredEntry)
 moved_of ps = first_moved (delta_from ps) ps
 
@@ -37,7 +38,7 @@ abbrev pub as_dropped : List PairPart → List (Pair × List StoredEntry)
 as_dropped [] = []
 as_dropped (p ∷ ps) = (p.0, flat_map (λ q. q.1.entries) (p ∷ ps)) ∷ []
 
--- those that no path leads to once the moved entry is gone
+-- the directories that no path leads to once the moved entry is gone
 abbrev pub dropped_of : List PairPart → List (Pair × List StoredEntry)
 dropped_of ps = flat_map as_dropped (unreached_of (groups (map (unmoved (delta_from ps)) ps)))
 
@@ -52,19 +53,21 @@ abbrev pub step_of : List Pair → Tail → Option (Pair × Pair)
 step_of named (Soft first second) = step_to (first, second) (in_step_with named (first, second))
 step_of named _ = None
 
+-- the steps of parts
 abbrev pub steps_in : List Pair → List PairPart → List (Pair × Pair)
 steps_in named ps = flat_map (λ p. option_to_list (step_of named p.1.tail)) ps
 
--- those along a thread whose soft tails lead to the pairs that entries name
+-- those along the thread whose soft tails lead to these pairs
 abbrev pub steps_along : List Pair → Reading → List (Pair × Pair)
 steps_along named r = steps_in named (parts_held r (thread_pairs (stepping named r)))
 
+-- those along the thread in step
 abbrev pub steps_of : Reading → List (Pair × Pair)
 steps_of r = steps_along (pairs_named (thread_parts r)) r
 
 -- ---- all of it
 
--- what is ended, as an image is settled: nothing if it can't be
+-- what settling ends: nothing if the image can't be settled
 pub record Ends (r : Reading) (ended : Ended) : Type 0 where
   pub moved : ended.moved ≡ (if can_settle r (in_step r) then moved_of (thread_parts (in_step r)) else None)
   pub dropped : ended.dropped.items ≡ (if can_settle r (in_step r) then dropped_of (thread_parts (in_step r)) else [])
