@@ -1,6 +1,10 @@
+pub mod AdoptedImage
 pub mod AlikeVolumes
+pub mod Copied
 pub mod Filled
 pub mod FilledAlike
+pub mod Flags
+pub mod GivenBack
 pub mod TidiedBlocks
 pub mod TidiedImage
 pub mod TidiedTree

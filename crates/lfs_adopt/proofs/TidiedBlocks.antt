@@ -1,6 +1,6 @@
 -- An image whose pairs hold the tidied parts is tidied.
 use Rattle.std.proofs.Common.{◌≡◌, ◌≢◌, ℕ, ◌≤◌, ◌<◌, ◌==◌, Bool, true, false, List, [], ◌∷◌, length, Option, Some, None, refl, ap, sym}
-use Rattle.std.proofs.Common.{◌∙◌, subst, arith}
+use Rattle.std.proofs.Common.{◌∙◌, subst, arith, ◌⊎◌, inl}
 use Rattle.std.specs.Prelude.{All, Contains, ◌&&◌, bytes_eq, cond, if◌then◌else◌, not}
 use Rattle.std.specs.List.{AllByRecursion, filter, list_all}
 use Rattle.std.specs.Option.{option_map_or}
@@ -24,6 +24,7 @@ use Rattle.lfs_fs.specs.Reading.{Reading, reading_of}
 use Rattle.lfs_fs.proofs.ApartLemmas.{same_bytes}
 use Rattle.lfs_fs.proofs.ContainsLemmas.{contains_first, contains_later, contains_none}
 use Rattle.lfs_fs.proofs.PairLemmas.{same_pair-refl}
+use Rattle.lfs_lower.specs.Alone.{IsAlone, IsSame}
 use Rattle.lfs_lower.specs.Joining.{ArePartsPut, CanPut}
 use Rattle.lfs_lower.specs.OneSuperblock.{can_be_put}
 use Rattle.lfs_lower.proofs.LongestFronts.{names_first}
@@ -253,18 +254,31 @@ module _ (depend : PartsDependOnTheirBlocks) (d e : Disk) where
   old = reading_of d
 
   module _ (can : can_tidy old ≡ true) (put : ArePartsPut d e (changed_parts old)) where
-    -- a part that isn't put is held already
-    stays : (q : PairPart) → Contains (left old) q → is_held old q ≡ true → stored_part_of e q.0 ≡ Some q.1
-    stays q there held =
+    -- the blocks stay of a pair whose part isn't put
+    blocks_stay : (q : PairPart) → Contains (left old) q → is_held old q ≡ true → IsSame d e q.0
+    blocks_stay q there held =
         let test : PairPart → Bool = λ (p : PairPart). not (is_held old p) in
         let out : test q ≡ false = ap not held in
         let first = omega_none q.0.0 (left_out q.0.0 test (left old) q there out) (left_once old q.0.0) (names_first q.0) in
         let second = omega_none q.0.1 (left_out q.0.1 test (left old) q there out) (left_once old q.0.1) (names_second q.0) in
-        (depend e d q.0 (put.others q.0.0 first, put.others q.0.1 second)).2 ∙ held_already old q there held
+        (put.others q.0.0 first, put.others q.0.1 second)
+
+    -- all others are put
+    put_if : (q : PairPart) → Contains (left old) q → is_held old q ≡ false → Contains (changed_parts old) q
+    put_if q there is = contains_filtered (λ (p : PairPart). not (is_held old p)) (left old) q there (ap not is)
 
     put_there : (q : PairPart) (t : Bool) → Contains (left old) q → is_held old q ≡ t → stored_part_of e q.0 ≡ Some q.1
-    put_there q true there is = stays q there is
-    put_there q false there is = put.held q (contains_filtered (λ (p : PairPart). not (is_held old p)) (left old) q there (ap not is))
+    put_there q true there is = (depend e d q.0 (blocks_stay q there is)).2 ∙ held_already old q there is
+    put_there q false there is = put.held q (put_if q there is)
+
+    alone_there : (q : PairPart) (t : Bool) → Contains (left old) q → is_held old q ≡ t → IsSame d e q.0 ⊎ IsAlone e q.0
+    alone_there q true there is = inl (blocks_stay q there is)
+    alone_there q false there is = put.alone q (put_if q there is)
+
+    -- the part that a pair of the tidied thread holds
+    part_along : (p : Pair) → Contains (thread_pairs (tidied old)) p → (q : PairPart) × Contains (left old) q × (q.0 ≡ p)
+    part_along p there =
+        contains_of (λ (x : PairPart). x.0) (left old) p (subst (λ (ps : List Pair). Contains ps p) (sym (pairs_are old can)) there)
 
     held_there : (q : PairPart) → Contains (left old) q → stored_part_of e q.0 ≡ (tidied old).part q.0
     held_there q there =
@@ -278,9 +292,11 @@ module _ (depend : PartsDependOnTheirBlocks) (d e : Disk) where
       size = put.size;
       count = put.count;
       held = λ p there.
-          let there_too = subst (λ (ps : List Pair). Contains ps p) (sym (pairs_are old can)) there in
-          let q = contains_of (λ (x : PairPart). x.0) (left old) p there_too in
+          let q = part_along p there in
           subst (λ (x : Pair). stored_part_of e x ≡ (tidied old).part x) q.2 (held_there q.0 q.1);
+      alone = λ p there.
+          let q = part_along p there in
+          subst (λ (x : Pair). IsSame d e x ⊎ IsAlone e x) q.2 (alone_there q.0 (is_held old q.0) q.1 refl);
       others = λ b none.
           let unnamed : pairs_name b (pairs_in (left old)) ≡ 0 = ap (pairs_name b) (pairs_are old can) ∙ none in
           put.others b (omega (arith, fewer b (λ (p : PairPart). not (is_held old p)) (left old), unnamed));
@@ -296,6 +312,7 @@ module _ (depend : PartsDependOnTheirBlocks) (d e : Disk) where
         size = put.size;
         count = put.count;
         held = λ p there. (depend e d p (put.others p.0 refl, put.others p.1 refl)).2 ∙ ap (λ (q : Reading). q.part p) (sym is);
+        alone = λ p there. inl (put.others p.0 refl, put.others p.1 refl);
         others = λ b none. put.others b refl;
         stays = same;
       }

@@ -54,12 +54,12 @@ held_are r (p ∷ ps) all =
     ∙ ap (λ (xs : List PairPart). p ∷ xs) (held_are r ps (λ q there. all q (contains_later p ps q there)))
 
 -- readings of one count that agree along the thread of one of them have the same thread
-pairs_agree : (r q : Reading) → q.count ≡ r.count → AgreeAt r q (thread_pairs r) → thread_pairs q ≡ thread_pairs r
+pub pairs_agree : (r q : Reading) → q.count ≡ r.count → AgreeAt r q (thread_pairs r) → thread_pairs q ≡ thread_pairs r
 pairs_agree r q count agree =
     ap (λ (n : ℕ). pairs_along (next_pair q) n [] n (Some root)) count
     ∙ along_alike (next_pair r) (next_pair q) r.count [] r.count (Some root) (λ p there. ap tail_of (agree p there))
 
-parts_agree : (r q : Reading) → q.count ≡ r.count → AgreeAt r q (thread_pairs r) → thread_parts q ≡ thread_parts r
+pub parts_agree : (r q : Reading) → q.count ≡ r.count → AgreeAt r q (thread_pairs r) → thread_parts q ≡ thread_parts r
 parts_agree r q count agree =
     ap (parts_held q) (pairs_agree r q count agree) ∙ held_alike r q (thread_pairs r) agree
 

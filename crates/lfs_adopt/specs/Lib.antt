@@ -1,5 +1,6 @@
 pub mod Adopted
 pub mod Laws
 pub mod Planned
+pub mod Rewritten
 pub mod Tidied
 pub mod Tidying

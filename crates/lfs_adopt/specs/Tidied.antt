@@ -1,5 +1,5 @@
 -- An image whose directories have no later part without an entry (SPEC.md, "0x6xx tail"; what leaves is own).
-use Rattle.std.specs.Prelude.{ℕ, ◌≡◌, ◌==◌, ◌&&◌, Bool, true, false, Contains, List, [], ◌∷◌, length, map, not, if◌then◌else◌}
+use Rattle.std.specs.Prelude.{ℕ, ◌≡◌, ◌⊎◌, ◌==◌, ◌&&◌, Bool, true, false, Contains, List, [], ◌∷◌, length, map, not, if◌then◌else◌}
 use Rattle.std.specs.List.{filter, list_all}
 use Rattle.lfs_block.specs.Disk.{Disk, IsDisk, block_of}
 use Rattle.lfs_meta.specs.Body.{Pair}
@@ -9,6 +9,7 @@ use Rattle.lfs_fs.specs.Front.{pairs_name}
 use Rattle.lfs_fs.specs.Gathering.{PairPart, delta_from}
 use Rattle.lfs_fs.specs.Reading.{Reading, reading_of}
 use Rattle.lfs_fs.specs.Thread.{is_hard}
+use Rattle.lfs_lower.specs.Alone.{IsAlone, IsSame}
 use Rattle.lfs_settle.specs.InStep.{has_thread, thread_pairs, thread_parts}
 use Rattle.lfs_settle.specs.Settled.{can_hold, is_held, with_parts, without_share}
 
@@ -55,12 +56,13 @@ changed_parts r = filter (λ p. not (is_held r p)) (tidied_parts (thread_parts r
 abbrev pub parts_to_put : Reading → List PairPart
 parts_to_put r = if can_tidy r then changed_parts r else []
 
--- The pairs of the tidied thread hold what they count as, and all other blocks are as they were. If no part is to be put, the image is as
--- it was.
+-- The pairs of the tidied thread hold what they count as, and no older state of them can be taken, unless they are as they were. All other
+-- blocks are as they were. If no part is to be put, the image is as it was.
 pub record IsTidiedImage (d e : Disk) : Type 0 where
   pub disk : IsDisk e
   pub size : e.size ≡ d.size
   pub count : e.count ≡ d.count
   pub held : (p : Pair) → Contains (thread_pairs (tidied (reading_of d))) p → stored_part_of e p ≡ (tidied (reading_of d)).part p
+  pub alone : (p : Pair) → Contains (thread_pairs (tidied (reading_of d))) p → IsSame d e p ⊎ IsAlone e p
   pub others : (b : ℕ) → pairs_name b (thread_pairs (tidied (reading_of d))) ≡ 0 → block_of e b ≡ block_of d b
   pub stays : parts_to_put (reading_of d) ≡ [] → e ≡ d

@@ -1,22 +1,83 @@
-//! An image that a device wrote, taken over in place.
+//! An image that a device wrote, taken over.
 
-ghost use Rattle.std.specs.Prelude.{OnOk};
+ghost use Rattle.std.specs.Prelude.{◌≡◌, IfOk, length};
 ghost use Rattle.lfs_adopt.specs.Adopted.{IsAdoptedImage};
+ghost use Rattle.lfs_adopt.specs.Rewritten.{AreGivenBack, IsRewrittenImage};
 
+use crate::thread::thread_table;
 use crate::tidying::tidy;
-use lfs_block::Image;
+use lfs_block::{Blocks, Image, put_blocks_stand};
 use lfs_lower::join;
+use lfs_meta::parts_depend_on_their_blocks;
 use lfs_settle::settle;
 use std::alloc::{AllocError, Global};
 
-/// Takes an image over that a device wrote: it is of version 2.0 then, with one superblock, and nothing is left unfinished in it. No later
-/// part of a directory is empty. Only blocks of pairs change: the live one keeps its place and its revision, and the one beside it is
-/// erased. A pair of which both versions read the same, and which holds its part already, stays as it is. If memory is refused, some pairs
-/// may be rewritten, and the image is of no use. Takes memory.
-pub fn adopt(alloc: Global, image: &mut Image) -> Result<(), AllocError>
-    ensures { OnOk result (IsAdoptedImage image.old.disk image.new.disk) }
+// ---- a copy
+
+/// The bytes of an image. Takes memory.
+fn bytes_of(alloc: Global, image: &Image) -> Result<Vec<u8>, AllocError>
+    ensures { IfOk result (λ bytes. bytes.items ≡ image.now.disk.bytes) }
 {
-    settle(alloc, image)?;
-    join(alloc, image)?;
-    tidy(alloc, image)
+    let size = image.size() as usize;
+    let mut bytes = Vec::with_capacity(alloc, image.count() as usize * size)?;
+    for number in 0..image.count() {
+        bytes.extend_from_slice(image.block(number))?;
+    }
+    Ok(bytes)
+}
+
+/// A copy of an image. Takes memory.
+fn copy_of(alloc: Global, image: &Image) -> Result<Image, AllocError>
+    ensures { IfOk result (λ copy. copy.disk ≡ image.now.disk) }
+{
+    let bytes = bytes_of(alloc, image)?;
+    let Ok(copy) = Image::new(bytes, image.size()) else {
+        unreachable!();
+    };
+    Ok(copy)
+}
+
+/// A copy of an image that is settled, joined and tidied. Takes memory.
+fn rewritten(alloc: Global, image: &Image) -> Result<Image, AllocError>
+    ensures { IfOk result (λ copy. IsRewrittenImage image.now.disk copy.disk) }
+{
+    let mut copy = copy_of(alloc, image)?;
+    settle(alloc, &mut copy)?;
+    join(alloc, &mut copy)?;
+    tidy(alloc, &mut copy)?;
+    Ok(copy)
+}
+
+// ---- blocks given back
+
+/// Gives blocks of an image the bytes that they have in another one: all those without a flag.
+fn give_back(image: &mut Image, old: &Image, flags: &[bool])
+    requires size { image.old.disk.size ≡ old.now.disk.size }
+    requires count { image.old.disk.count ≡ old.now.disk.count }
+    requires flags { length flags.now ≡ old.now.disk.count }
+    ensures { AreGivenBack old.now.disk image.old.disk image.new.disk flags.now old.now.disk.count }
+{
+    put_blocks_stand();
+    let _fits_the_limits = image.size();
+    let _fits_too = old.size();
+    for number in 0..old.count() {
+        if !flags[number as usize] {
+            image.write_block(number, old.block(number));
+        }
+    }
+}
+
+/// The image that a device wrote, taken over: it is of version 2.0, with one superblock, and nothing is left unfinished in it. No later
+/// part of a directory is empty. Only blocks of pairs along its thread differ from the old image: the live one keeps its place and its
+/// revision, and the one beside it is erased. A pair of which both versions read the same, and which holds its part already, stays as it
+/// is. Takes memory.
+pub fn adopted(alloc: Global, image: &Image) -> Result<Image, AllocError>
+    ensures { IfOk result (λ adopted. IsAdoptedImage image.now.disk adopted.disk) }
+{
+    parts_depend_on_their_blocks();
+    let _fits_the_limits = image.size();
+    let mut copy = rewritten(alloc, image)?;
+    let flags = thread_table(alloc, &copy)?;
+    give_back(&mut copy, image, &flags);
+    Ok(copy)
 }

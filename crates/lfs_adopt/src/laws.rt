@@ -1,13 +1,12 @@
 //! Laws of tidied images: each function does nothing but call laws, and its contract is the law.
 
-ghost use Rattle.lfs_adopt.specs.Adopted.{AdoptedImagesKeepTheTree};
+ghost use Rattle.lfs_adopt.specs.Adopted.{AdoptedImagesHoldWhatIsAdopted, AdoptedImagesKeepTheTree};
 ghost use Rattle.lfs_adopt.specs.Laws.{TidiedAreLinked, TidiedHaveEntries, TidiedHaveNoState, TidiedNameNoMore, TidiedStay};
 ghost use Rattle.lfs_adopt.specs.Laws.{TidiedImagesHaveTheParts, TidiedImagesHoldWhatIsTidied, TidiedImagesKeepTheTree};
 ghost use Rattle.lfs_adopt.specs.Laws.{TidiedImagesStay, TidiedKeepTheTree};
 
 use lfs_file::chains_stay_on_their_blocks;
 use lfs_fs::{both_sides_hold, same_readings_hold_the_same, stored_links_stay};
-use lfs_settle::relaid_images_hold_what_is_read;
 
 /// A law: no tidied part to which a hard tail leads is empty. Tidied parts are one thread, of pairs that were there, without a state if
 /// there was none.
@@ -48,12 +47,12 @@ pub fn tidied_keep_the_tree()
     same_readings_hold_the_same();
 }
 
-/// A law: an image that is taken over holds a sound volume with the tree that a device reads in the other one, with the same limits and
-/// attributes of the root.
+/// A law: an image that is taken over holds the sound volumes that are read in the other one so, and no other. So it holds a sound volume
+/// with the tree that a device reads in the other one, with the same limits and attributes of the root.
 pub fn adopted_images_keep_the_tree()
-    ensures { AdoptedImagesKeepTheTree }
+    ensures hold { AdoptedImagesHoldWhatIsAdopted }
+    ensures tree { AdoptedImagesKeepTheTree }
 {
-    relaid_images_hold_what_is_read();
     chains_stay_on_their_blocks();
     stored_links_stay();
     both_sides_hold();

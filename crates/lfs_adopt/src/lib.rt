@@ -1,4 +1,4 @@
-//! Images that devices wrote, taken over in place: as the device's next change leaves them, of version 2.0, with one superblock. Later parts
+//! Images that devices wrote, taken over: as the device's next change leaves them, of version 2.0, with one superblock. Later parts
 //! of directories that hold no entry leave, since a real littlefs never ends listing a directory with such a part.
 #![tactic(auto)]
 
@@ -9,7 +9,7 @@ mod thread;
 mod tidied_parts;
 mod tidying;
 
-pub use adopting::adopt;
+pub use adopting::adopted;
 pub use laws::{
     adopted_images_keep_the_tree, tidied_images_hold_what_is_tidied, tidied_keep_the_tree,
     tidied_parts_have_entries, tidied_stay,
