@@ -5,6 +5,8 @@ pub mod Filled
 pub mod FilledAlike
 pub mod Flags
 pub mod GivenBack
+pub mod RewrittenImage
+pub mod TidiedAlike
 pub mod TidiedBlocks
 pub mod TidiedImage
 pub mod TidiedTree

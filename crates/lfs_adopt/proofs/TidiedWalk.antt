@@ -1,5 +1,5 @@
 -- The parts along a thread, read one after another.
-use Rattle.std.proofs.Common.{◌≡◌, Bool, List, [], ◌∷◌, ◌++◌, Option, Some, ap, sym, ◌∙◌, subst}
+use Rattle.std.proofs.Common.{◌≡◌, Bool, List, [], ◌∷◌, ◌++◌, Option, Some, None, ap, sym, ◌∙◌, subst}
 use Rattle.std.specs.List.{AllByRecursion}
 use Rattle.lfs_meta.specs.Body.{Pair}
 use Rattle.lfs_meta.specs.Complete.{IsComplete}
@@ -7,8 +7,9 @@ use Rattle.lfs_fs.specs.Gathering.{PairPart}
 use Rattle.lfs_fs.specs.Reading.{Reading}
 use Rattle.lfs_fs.specs.Thread.{next}
 use Rattle.lfs_fs.specs.Used.{AddsBlocks}
+use Rattle.lfs_settle.specs.InStep.{thread_pairs}
 use Rattle.lfs_settle.specs.Walked.{AreWalked}
-use Rattle.lfs_settle.proofs.Walk.{walked_more}
+use Rattle.lfs_settle.proofs.Walk.{walked_more, walked_unread}
 
 -- a pair more
 pub walk_goes_on : (r : Reading) (used new : List Bool) (before more : List Pair) (parts now : List PairPart) (pair : Pair)
@@ -22,3 +23,10 @@ walk_goes_on r used new before more parts now pair part follows walked adds at r
     (subst (λ (ps : List PairPart). AreWalked r new (before ++ pair ∷ []) ps follows) all
     (subst (λ (o : Option Pair). AreWalked r new (before ++ pair ∷ []) (parts ++ (pair, part.1) ∷ []) o) (sym next_is)
     (walked_more r used before parts pair new part.1 walked adds read complete)))
+
+-- a pair that isn't read is the last one
+pub pairs_unread : (r : Reading) (used new : List Bool) (before now : List Pair) (parts : List PairPart) (pair : Pair)
+    → AreWalked r used before parts (Some pair) → AddsBlocks used new (pair.0 ∷ pair.1 ∷ []) → r.part pair ≡ None
+    → now ≡ before ++ pair ∷ [] → now ≡ thread_pairs r
+pairs_unread r used new before now parts pair walked adds read pushed =
+    pushed ∙ (walked_unread r used before parts pair new walked adds read).pairs_are

@@ -38,7 +38,7 @@ fn copy_of(alloc: Global, image: &Image) -> Result<Image, AllocError>
 }
 
 /// A copy of an image that is settled, joined and tidied. Takes memory.
-fn rewritten(alloc: Global, image: &Image) -> Result<Image, AllocError>
+fn tidied_copy(alloc: Global, image: &Image) -> Result<Image, AllocError>
     ensures { IfOk result (λ copy. IsRewrittenImage image.now.disk copy.disk) }
 {
     let mut copy = copy_of(alloc, image)?;
@@ -76,7 +76,7 @@ pub fn adopted(alloc: Global, image: &Image) -> Result<Image, AllocError>
 {
     parts_depend_on_their_blocks();
     let _fits_the_limits = image.size();
-    let mut copy = rewritten(alloc, image)?;
+    let mut copy = tidied_copy(alloc, image)?;
     let flags = thread_table(alloc, &copy)?;
     give_back(&mut copy, image, &flags);
     Ok(copy)

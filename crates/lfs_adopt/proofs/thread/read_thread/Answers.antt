@@ -12,7 +12,7 @@ use Rattle.lfs_fs.proofs.ThreadReadLemmas.{pair_within}
 use Rattle.lfs_lower.proofs.GatheredParts.{marked_by, refused_by}
 use Rattle.lfs_settle.specs.Walked.{AreWalked}
 use Rattle.lfs_settle.proofs.Walk.{walked_all, walked_none, walked_taken, walked_unread}
-use Rattle.lfs_adopt.proofs.TidiedWalk.{walk_goes_on}
+use Rattle.lfs_adopt.proofs.TidiedWalk.{pairs_unread, walk_goes_on}
 use Rattle.lfs_adopt.proofs.thread.read_thread.Goals as goal
 
 pub walk-init : goal.walk-init
@@ -71,9 +71,10 @@ returns-in_default-2-clause-pairs g c =
     let r = reading_of (g.B.Blocks.disk c.args.blocks.now) in
     let marked = marked_by c.mark_all.result (AddsBlocks c.walk.table c.mark_all.new.used (c.in-Some.pair.0 ∷ c.in-Some.pair.1 ∷ []))
     (sym c.is_err.ensures.value ∙ c.if-is_err.false) c.mark_all.ensures.marked in
-    c.in_ok-push.ensures.items ∙ (walked_unread r c.walk.table c.walk.pairs.items c.walk.parts.items c.in-Some.pair c.mark_all.new.used
+    pairs_unread r c.walk.table c.mark_all.new.used c.walk.pairs.items _ c.walk.parts.items c.in-Some.pair
     (subst (λ (o : Option Pair). AreWalked r c.walk.table c.walk.pairs.items c.walk.parts.items o) c.in-Some.is c.walk.invariant) marked
-    (subst (λ (o : Option PairPart). IfNone o (r.part c.in-Some.pair ≡ None)) c.in_default-2.is c.in_ok-part.ensures.none)).pairs_are
+    (subst (λ (o : Option PairPart). IfNone o (r.part c.in-Some.pair ≡ None)) c.in_default-2.is c.in_ok-part.ensures.none)
+    c.in_ok-push.ensures.items
 
 pub returns-in_default-2-clause-parts : goal.returns-in_default-2-clause-parts
 returns-in_default-2-clause-parts g c =
