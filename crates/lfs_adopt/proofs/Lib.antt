@@ -1,3 +1,4 @@
+pub mod AdoptedAgain
 pub mod AdoptedImage
 pub mod AlikeVolumes
 pub mod Copied

@@ -7,6 +7,7 @@ use Rattle.lfs_fs.specs.Reading.{Reading, reading_of}
 use Rattle.lfs_fs.specs.Sound.{IsSound}
 use Rattle.lfs_fs.specs.Volume.{Volume}
 use Rattle.lfs_lower.specs.Alone.{IsAlone, IsLeft}
+use Rattle.lfs_lower.specs.LaterReading.{later_part_of, later_reading_of}
 use Rattle.lfs_meta.specs.Body.{Pair}
 use Rattle.lfs_meta.specs.LiveBlock.{stored_part_of}
 use Rattle.lfs_settle.specs.InStep.{thread_pairs}
@@ -37,3 +38,17 @@ AdoptedImagesHoldWhatIsAdopted = (d e : Disk) (v : Volume) → IsDisk d → IsAd
 abbrev pub AdoptedImagesKeepTheTree : Type 0
 AdoptedImagesKeepTheTree = (d e : Disk) (v : Volume) → IsDisk d → IsAdoptedImage d e → IsSound v → Holds (device_reading_of d) v
     → HoldsTheTreeOf (reading_of e) v
+
+-- the law: and of what version 2.1 reads in it
+abbrev pub SoundVolumesKeepTheTree : Type 0
+SoundVolumesKeepTheTree = (d e : Disk) (v : Volume) → IsDisk d → IsAdoptedImage d e → IsSound v → Holds (later_reading_of d) v
+    → HoldsTheTreeOf (reading_of e) v
+
+-- both versions read the same of the pairs along the thread
+abbrev pub BothReadTheSame : Disk → Type 0
+BothReadTheSame d = (p : Pair) → Contains (thread_pairs (reading_of d)) p → later_part_of d p ≡ stored_part_of d p
+
+-- the law: and if it is taken over again, the tree stays
+abbrev pub AdoptedOnce : Type 0
+AdoptedOnce = (d e f : Disk) (v : Volume) → IsDisk d → IsAdoptedImage d e → IsAdoptedImage e f → BothReadTheSame e → IsSound v
+    → Holds (device_reading_of d) v → HoldsTheTreeOf (reading_of f) v

@@ -1,12 +1,14 @@
 //! Laws of tidied images: each function does nothing but call laws, and its contract is the law.
 
-ghost use Rattle.lfs_adopt.specs.Adopted.{AdoptedImagesHoldWhatIsAdopted, AdoptedImagesKeepTheTree};
+ghost use Rattle.lfs_adopt.specs.Adopted.{AdoptedImagesHoldWhatIsAdopted, AdoptedImagesKeepTheTree, AdoptedOnce, SoundVolumesKeepTheTree};
 ghost use Rattle.lfs_adopt.specs.Laws.{TidiedAreLinked, TidiedHaveEntries, TidiedHaveNoState, TidiedNameNoMore, TidiedStay};
 ghost use Rattle.lfs_adopt.specs.Laws.{TidiedImagesHaveTheParts, TidiedImagesHoldWhatIsTidied, TidiedImagesKeepTheTree};
 ghost use Rattle.lfs_adopt.specs.Laws.{TidiedImagesStay, TidiedKeepTheTree};
 
 use lfs_file::chains_stay_on_their_blocks;
 use lfs_fs::{both_sides_hold, same_readings_hold_the_same, stored_links_stay};
+use lfs_lower::one_superblock_stays;
+use lfs_settle::settled_stays;
 
 /// A law: no tidied part to which a hard tail leads is empty. Tidied parts are one thread, of pairs that were there, without a state if
 /// there was none.
@@ -53,6 +55,20 @@ pub fn adopted_images_keep_the_tree()
     ensures hold { AdoptedImagesHoldWhatIsAdopted }
     ensures tree { AdoptedImagesKeepTheTree }
 {
+    chains_stay_on_their_blocks();
+    stored_links_stay();
+    both_sides_hold();
+    same_readings_hold_the_same();
+}
+
+/// A law: an image that is taken over holds a sound volume with the tree of the sound volume that version 2.1 reads in the other one. And
+/// if it is taken over again, and both versions read the same of its pairs, it keeps the tree that a device read at first.
+pub fn adopted_once()
+    ensures sound { SoundVolumesKeepTheTree }
+    ensures once { AdoptedOnce }
+{
+    settled_stays();
+    one_superblock_stays();
     chains_stay_on_their_blocks();
     stored_links_stay();
     both_sides_hold();

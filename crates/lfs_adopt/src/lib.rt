@@ -11,7 +11,7 @@ mod tidying;
 
 pub use adopting::adopted;
 pub use laws::{
-    adopted_images_keep_the_tree, tidied_images_hold_what_is_tidied, tidied_keep_the_tree,
-    tidied_parts_have_entries, tidied_stay,
+    adopted_images_keep_the_tree, adopted_once, tidied_images_hold_what_is_tidied,
+    tidied_keep_the_tree, tidied_parts_have_entries, tidied_stay,
 };
 pub use tidying::tidy;
