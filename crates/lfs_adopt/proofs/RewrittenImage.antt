@@ -81,7 +81,7 @@ left_on d x y p same is = record {
   same = (same.0 ∙ is.same.0, same.1 ∙ is.same.1);
 }
 
--- one image more
+-- what holds after one step holds after the next
 pub carried_on : (d x y : Disk) (p : Pair) → y.size ≡ x.size → IsSame x y p ⊎ IsAlone y p → IsLeft d x p ⊎ IsAlone x p
     → IsLeft d y p ⊎ IsAlone y p
 carried_on d x y p size (inr alone) before = inr alone
@@ -131,11 +131,11 @@ module _ (d t : Disk) (is : IsRewrittenImage d t) where
       joined_is_anew d (settled_reading_of d) settled_one joined_one (settled_reads d)
       (settled_is_anew d settled_one is.relaid.settled) is.relaid.joined
 
+  front_is : joined_anew.front ≡ thread_pairs by_device
+  front_is = longest_is_thread by_device joined_anew.front joined_anew.is_front joined_anew.longest
+
   joined_agree : AgreeAt by_device (reading_of joined_one) (thread_pairs by_device)
-  joined_agree p there =
-      joined_anew.held p
-      (subst (λ (ps : List Pair). Contains ps p) (sym (longest_is_thread by_device joined_anew.front joined_anew.is_front joined_anew.longest))
-      there)
+  joined_agree p there = joined_anew.held p (subst (λ (ps : List Pair). Contains ps p) (sym front_is) there)
 
   both_agree : AgreeAt read_tidied (tidied (reading_of joined_one)) (thread_pairs read_tidied)
   both_agree =

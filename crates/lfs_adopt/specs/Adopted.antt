@@ -39,7 +39,7 @@ abbrev pub AdoptedImagesKeepTheTree : Type 0
 AdoptedImagesKeepTheTree = (d e : Disk) (v : Volume) → IsDisk d → IsAdoptedImage d e → IsSound v → Holds (device_reading_of d) v
     → HoldsTheTreeOf (reading_of e) v
 
--- the law: and of what version 2.1 reads in it
+-- the law: of what version 2.1 reads in the other image, if that is a sound volume, it holds the tree
 abbrev pub SoundVolumesKeepTheTree : Type 0
 SoundVolumesKeepTheTree = (d e : Disk) (v : Volume) → IsDisk d → IsAdoptedImage d e → IsSound v → Holds (later_reading_of d) v
     → HoldsTheTreeOf (reading_of e) v
@@ -48,7 +48,7 @@ SoundVolumesKeepTheTree = (d e : Disk) (v : Volume) → IsDisk d → IsAdoptedIm
 abbrev pub BothReadTheSame : Disk → Type 0
 BothReadTheSame d = (p : Pair) → Contains (thread_pairs (reading_of d)) p → later_part_of d p ≡ stored_part_of d p
 
--- the law: and if it is taken over again, the tree stays
+-- the law: if it is taken over again, the tree that a device read at first stays
 abbrev pub AdoptedOnce : Type 0
 AdoptedOnce = (d e f : Disk) (v : Volume) → IsDisk d → IsAdoptedImage d e → IsAdoptedImage e f → BothReadTheSame e → IsSound v
     → Holds (device_reading_of d) v → HoldsTheTreeOf (reading_of f) v

@@ -67,10 +67,11 @@ fn give_back(image: &mut Image, old: &Image, flags: &[bool])
     }
 }
 
-/// The image that a device wrote, taken over: it is of version 2.0, with one superblock, and nothing is left unfinished in it. No later
-/// part of a directory is empty. Only blocks of pairs along its thread differ from the old image: the live one keeps its place and its
-/// revision, and the one beside it is erased. A pair of which both versions read the same, and which holds its part already, stays as it
-/// is. Takes memory.
+/// The image that a device wrote, taken over: it is lowered to version 2.0, what was left unfinished is ended, its superblocks become
+/// one, and later parts of directories leave if they are empty. Of the last three, what can't be done is left out: if the thread isn't
+/// whole, the state isn't one that a device ends, or a pair has no room for what it is to hold. Only blocks of pairs along the new
+/// thread differ from the old image. In each of those pairs the live block keeps its place and its revision, and the one beside it is
+/// erased. A pair of which both versions read the same, and which holds its part already, stays as it is. Takes memory.
 pub fn adopted(alloc: Global, image: &Image) -> Result<Image, AllocError>
     ensures { IfOk result (λ adopted. IsAdoptedImage image.now.disk adopted.disk) }
 {

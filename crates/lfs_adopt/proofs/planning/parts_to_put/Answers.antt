@@ -1,7 +1,8 @@
 -- If the thread and the parts pass, those that change are planned, and else none.
 use Rattle.std.proofs.Common.{sym, ◌∙◌}
 use Rattle.lfs_block.specs.Disk.{Disk}
-use Rattle.lfs_adopt.proofs.TidiedBlocks.{ArePlannedOf, changed_planned, first_of_parts, fit_is, none_planned, second_of_parts, unfit_thread}
+use Rattle.lfs_adopt.proofs.TidiedBlocks.{ArePlannedOf, changed_planned, first_of_parts, fit_is, none_planned}
+use Rattle.lfs_adopt.proofs.TidiedBlocks.{second_of_parts, unfit_thread}
 use Rattle.lfs_adopt.proofs.planning.parts_to_put.Goals as goal
 
 pub returns-then-not-can_be_tidied : goal.returns-then-not-can_be_tidied
