@@ -14,10 +14,6 @@ split_take a b xs =
     ap₂ (λ (x y : List ℕ). x ++ y) (sym (take-take a (a + b) xs (omega arith))) (sym (drop-take a b xs))
     ∙ take-append-drop a (take (a + b) xs)
 
--- none so far
-pub none_copied : (d : Disk) (bytes : List ℕ) → bytes ≡ [] → bytes ≡ take (0 * d.size) d.bytes
-none_copied d bytes none = none ∙ ap (λ (n : ℕ). take n d.bytes) (let zero : 0 ≡ 0 * d.size = omega arith in zero)
-
 -- a block more
 pub next_copied : (d : Disk) (n : ℕ) (old block new : List ℕ) → old ≡ take (n * d.size) d.bytes → block ≡ block_of d n
     → new ≡ old ++ block → new ≡ take ((n + 1) * d.size) d.bytes
@@ -26,12 +22,6 @@ next_copied d n old block new before is more =
     ∙ ap₂ (λ (x y : List ℕ). x ++ y) before is
     ∙ split_take (n * d.size) d.size d.bytes
     ∙ ap (λ (m : ℕ). take m d.bytes) (let step : n * d.size + d.size ≡ (n + 1) * d.size = omega arith in step)
-
--- all of them
-pub all_copied : (d : Disk) (n : ℕ) (bytes : List ℕ) → IsDisk d → d.count ≤ n → bytes ≡ take (n * d.size) d.bytes → bytes ≡ d.bytes
-all_copied d n bytes disk enough is =
-    let rows : d.count * d.size ≤ n * d.size = mul-le-mul_right d.size enough in
-    is ∙ take_all (n * d.size) d.bytes (omega (arith, disk.len, rows))
 
 -- ---- the image that the bytes are
 

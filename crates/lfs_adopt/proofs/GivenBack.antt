@@ -1,5 +1,5 @@
 -- Blocks of an image, given back one after another.
-use Rattle.std.proofs.Common.{◌≡◌, ◌≢◌, ℕ, ◌+◌, ◌<◌, Bool, true, false, List, length, refl, ap, sym, ◌∙◌, subst, arith, inl, inr}
+use Rattle.std.proofs.Common.{◌≡◌, ◌≢◌, ℕ, ◌+◌, ◌<◌, Bool, true, false, List, length, ap, sym, ◌∙◌, subst, arith, inl, inr}
 use Rattle.std.specs.Prelude.{slice_index_or}
 use Rattle.std.proofs.lemmas.Bool.{both_ways, cases_lt}
 use Rattle.lfs_block.specs.Disk.{Disk, IsDisk, block_of, put}
@@ -7,17 +7,6 @@ use Rattle.lfs_block.specs.PatchLaws.{BlockPut, BlockPutOther, PutIsDisk}
 use Rattle.lfs_block.proofs.BlockLens.{length-block}
 use Rattle.lfs_block.proofs.PutLemmas.{IsBytes-drop, IsBytes-take}
 use Rattle.lfs_adopt.specs.Rewritten.{AreGivenBack}
-
--- none so far
-pub none_given : (d g : Disk) (flags : List Bool) → IsDisk g → AreGivenBack d g g flags 0
-none_given d g flags disk = record {
-  disk = disk;
-  size = refl;
-  count = refl;
-  flagged = λ b set. refl;
-  back = λ b below unset. absurd (omega (arith, below));
-  above = λ b at. refl;
-}
 
 module _ (d g e : Disk) (flags : List Bool) (n : ℕ) (old : AreGivenBack d g e flags n) where
   -- a block with a flag stays

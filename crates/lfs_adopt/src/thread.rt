@@ -1,4 +1,4 @@
-//! The parts along the thread of an image of version 2.0, and its blocks.
+//! The pairs along the thread of an image of version 2.0, their parts, and a flag for each of their blocks.
 
 ghost use Rattle.std.specs.Prelude.{◌≡◌, ◌<◌, ℕ, All, IfOk, false, length, replicate};
 ghost use Rattle.std.specs.List.{AllByRecursion};
@@ -25,8 +25,8 @@ pub(crate) struct Thread {
     pub(crate) is_whole: bool,
 }
 
-/// The parts along the thread: up to a pair that isn't read, and before one that has a block past the end, or one that was named before.
-/// Takes memory.
+/// The pairs along the thread, and their parts: up to a pair that isn't read, and before one that has a block past the end, or one that was
+/// named before. Takes memory.
 pub(crate) fn read_thread<B: Blocks>(alloc: Global, blocks: &B) -> Result<Thread, AllocError>
     ensures pairs { IfOk result (λ thread. thread.pairs.items ≡ thread_pairs (reading_of (B.disk blocks.now))) }
     ensures parts { IfOk result (λ thread. thread.parts.items ≡ thread_parts (reading_of (B.disk blocks.now))) }
