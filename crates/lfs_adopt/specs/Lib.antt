@@ -1,4 +1,5 @@
 pub mod Adopted
+pub mod Changed
 pub mod Laws
 pub mod Planned
 pub mod Rewritten

@@ -1,15 +1,19 @@
 //! An image that a device wrote, taken over.
 
 ghost use Rattle.std.specs.Prelude.{◌≡◌, IfOk, length};
+ghost use Rattle.lfs_lower.specs.LaterReading.{later_reading_of};
+ghost use Rattle.lfs_settle.specs.Ended.{Ends};
 ghost use Rattle.lfs_adopt.specs.Adopted.{IsAdoptedImage};
+ghost use Rattle.lfs_adopt.specs.Changed.{changed_blocks};
 ghost use Rattle.lfs_adopt.specs.Rewritten.{AreGivenBack, IsRewrittenImage};
 
+use crate::changed::changed_blocks;
 use crate::thread::thread_table;
 use crate::tidying::tidy;
 use lfs_block::{Blocks, Image, put_blocks_stand};
 use lfs_lower::join;
 use lfs_meta::parts_depend_on_their_blocks;
-use lfs_settle::settle;
+use lfs_settle::{Ended, settle};
 use std::alloc::{AllocError, Global};
 
 // ---- a copy
@@ -37,15 +41,16 @@ fn copy_of(alloc: Global, image: &Image) -> Result<Image, AllocError>
     Ok(copy)
 }
 
-/// A copy of an image that is settled, joined and tidied. Takes memory.
-fn tidied_copy(alloc: Global, image: &Image) -> Result<Image, AllocError>
-    ensures { IfOk result (λ copy. IsRewrittenImage image.now.disk copy.disk) }
+/// A copy of an image that is settled, joined and tidied, and what is ended so. Takes memory.
+fn tidied_copy(alloc: Global, image: &Image) -> Result<(Image, Ended), AllocError>
+    ensures copy { IfOk result (λ made. IsRewrittenImage image.now.disk made.0.disk) }
+    ensures ended { IfOk result (λ made. Ends (later_reading_of image.now.disk) made.1) }
 {
     let mut copy = copy_of(alloc, image)?;
-    settle(alloc, &mut copy)?;
+    let ended = settle(alloc, &mut copy)?;
     join(alloc, &mut copy)?;
     tidy(alloc, &mut copy)?;
-    Ok(copy)
+    Ok((copy, ended))
 }
 
 // ---- blocks given back
@@ -67,18 +72,35 @@ fn give_back(image: &mut Image, old: &Image, flags: &[bool])
     }
 }
 
-/// The image that a device wrote, taken over: it is lowered to version 2.0, what was left unfinished is ended, its superblocks become
-/// one, and later parts of directories leave if they are empty. Of the last three, what can't be done is left out: if the thread isn't
-/// whole, the state isn't one that a device ends, or a pair has no room for what it is to hold. Only blocks of pairs along the new
-/// thread differ from the old image. In each of those pairs the live block keeps its place and its revision, and the one beside it is
-/// erased. A pair of which both versions read the same, and which holds its part already, stays as it is. Takes memory.
-pub fn adopted(alloc: Global, image: &Image) -> Result<Image, AllocError>
-    ensures { IfOk result (λ adopted. IsAdoptedImage image.now.disk adopted.disk) }
+/// An image that is taken over, and what is told of that.
+#[derive(Drop)]
+pub struct TakenOver {
+    /// The image.
+    pub image: Image,
+    /// What is ended of what the device left unfinished.
+    pub ended: Ended,
+    /// The numbers of the blocks that differ from the old image, in order.
+    pub changed: Vec<u32>,
+}
+
+/// The image that a device wrote, taken over: it is of version 2.0, with one superblock, and nothing is left unfinished in it. No later
+/// part of a directory is empty. Only blocks of pairs along its thread differ from the old image: the live one keeps its place and its
+/// revision, and the one beside it is erased. A pair of which both versions read the same, and which holds its part already, stays as it
+/// is. Takes memory.
+pub fn adopted(alloc: Global, image: &Image) -> Result<TakenOver, AllocError>
+    ensures image { IfOk result (λ taken. IsAdoptedImage image.now.disk taken.image.disk) }
+    ensures ended { IfOk result (λ taken. Ends (later_reading_of image.now.disk) taken.ended) }
+    ensures changed { IfOk result (λ taken. taken.changed.items ≡ changed_blocks image.now.disk taken.image.disk) }
 {
     parts_depend_on_their_blocks();
     let _fits_the_limits = image.size();
-    let mut copy = tidied_copy(alloc, image)?;
+    let (mut copy, ended) = tidied_copy(alloc, image)?;
     let flags = thread_table(alloc, &copy)?;
     give_back(&mut copy, image, &flags);
-    Ok(copy)
+    let changed = changed_blocks(alloc, image, &copy)?;
+    Ok(TakenOver {
+        image: copy,
+        ended,
+        changed,
+    })
 }

@@ -3,13 +3,14 @@
 #![tactic(auto)]
 
 mod adopting;
+mod changed;
 mod laws;
 mod planning;
 mod thread;
 mod tidied_parts;
 mod tidying;
 
-pub use adopting::adopted;
+pub use adopting::{TakenOver, adopted};
 pub use laws::{
     adopted_images_keep_the_tree, adopted_once, tidied_images_hold_what_is_tidied,
     tidied_keep_the_tree, tidied_parts_have_entries, tidied_stay,

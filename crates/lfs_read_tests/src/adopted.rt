@@ -99,16 +99,31 @@ g\x00\x00\x00\xf0\x0f\xff\xf7littlefs/\xe0\x00\x10\x00\x00\x02\x00\x00\x01\x00\x
 /// Logs, each with the place at which it stands.
 type Heads<'a> = &'a [(usize, &'a [u8])];
 
-/// Whether an image of blocks of 256 bytes that are erased but for logs is taken over as one with other logs.
-fn is_taken_over(alloc: Global, len: usize, old: Heads<'_>, new: Heads<'_>) -> bool {
-    let (Some(old), Some(new)) = (
-        image_of(alloc, 256, len, old),
-        image_of(alloc, 256, len, new),
-    ) else {
+/// An image that is to be taken over, and what that makes of it.
+struct Case<'a> {
+    /// The logs of the old image.
+    old: Heads<'a>,
+    /// Those of the new one.
+    new: Heads<'a>,
+    /// The blocks that differ.
+    changed: &'a [u32],
+    /// Whether a move is ended.
+    is_moved: bool,
+}
+
+/// Whether an image of blocks of 256 bytes that are erased but for logs is taken over so.
+fn is_taken_over(alloc: Global, case: &Case<'_>) -> bool {
+    let old = image_of(alloc, 256, 6_144, case.old);
+    let new = image_of(alloc, 256, 6_144, case.new);
+    let (Some(old), Some(new)) = (old, new) else {
         return false;
     };
     match adopted(alloc, &old) {
-        Ok(image) => image.into_bytes() == new.into_bytes(),
+        Ok(taken) => {
+            taken.changed.as_slice() == case.changed
+                && taken.ended.moved.is_some() == case.is_moved
+                && taken.image.into_bytes() == new.into_bytes()
+        }
         Err(_) => false,
     }
 }
@@ -128,12 +143,24 @@ fn move_is_ended(rt: HostRuntime) {
         (3_072, MOVED_12),
         (3_584, MOVED_14),
     ];
-    assert!(rt; is_taken_over(rt.alloc(), 6_144, old, new));
+    let case = Case {
+        old,
+        new,
+        changed: &[0, 1, 10, 12, 14],
+        is_moved: true,
+    };
+    assert!(rt; is_taken_over(rt.alloc(), &case));
 }
 
 #[test]
 fn empty_part_of_an_expanded_superblock_leaves(rt: HostRuntime) {
     let old: Heads<'_> = &[(0, LONG_0), (256, LONG_1), (1_280, LONG_5), (1_536, LONG_6)];
     let new: Heads<'_> = &[(0, LONG_TAKEN), (1_280, LONG_5), (1_536, LONG_6)];
-    assert!(rt; is_taken_over(rt.alloc(), 6_144, old, new));
+    let case = Case {
+        old,
+        new,
+        changed: &[0, 1],
+        is_moved: false,
+    };
+    assert!(rt; is_taken_over(rt.alloc(), &case));
 }
