@@ -37,7 +37,8 @@ def images_are_read(folder):
         status, told, printed = folder.run(f"check --device -b auto {at}")
         said = f"block {about['block']}, count {about['count']}, free "
         is_said = printed.decode().startswith(said) and printed.decode().endswith(", version 2.1\n")
-        folder.check(f"{name}: checked", (status, told) == (0, "") and is_said, (status, told, printed))
+        is_told = not told or name.startswith("cut") and told.startswith("lfsed: a.img: blocks ")
+        folder.check(f"{name}: checked", status == 0 and is_told and is_said, (status, told, printed))
         listed(folder, about, name, f"--device -b auto {at}")
 
 

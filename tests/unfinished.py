@@ -101,6 +101,25 @@ ROWS = {
     "a block past the end": Row({0: written(1, SIZE, root(TWO, tail(SOFT, (2, COUNT)), state(ORPHANS)))}, "14 BlockRange"),
 }
 
+# What `check --device` says of the stored images and of some of the others. Of a directory without an entry nothing is said.
+LEFT_OUT = "that no path leads to is left out; salvage saves it"
+TOLD = {
+    "move": ["blocks 10 and 11: f was being moved; it is read at its new place"],
+    "move-directory": ["blocks 10 and 11: d was being moved; it is read at its new place"],
+    "lost": [f"blocks 10 and 11: a directory with 2 entries {LEFT_OUT}", f"blocks 14 and 15: a directory with 2 entries {LEFT_OUT}"],
+    "out-of-step": ["blocks 16 and 20: a directory stands here, not in blocks 19 and 20, which the thread names"],
+    "the last entry was moved": ["blocks 0 and 1: b was being moved; it is read at its new place"],
+    "a directory without an entry": [f"blocks 2 and 3: a directory with 1 entry {LEFT_OUT}"],
+    "between others": [f"blocks 2 and 3: a directory with 2 entries {LEFT_OUT}"],
+    "the entry names the new pair": ["blocks 3 and 4: a directory stands here, not in blocks 2 and 3, which the thread names"],
+    "shares that cancel each other": [],
+}
+
+
+def told_of(name):
+    """What `check --device` says of an image on standard error."""
+    return "".join(f"lfsed: a.img: {line}\n" for line in TOLD.get(name, []))
+
 
 def rows_of(printed):
     """The paths of what `ls --json` prints, each with its length, or None for a directory."""
@@ -114,7 +133,7 @@ def stored_images_are_read(folder):
         status, told, _ = folder.run(f"check -b {about['block']} a.img")
         folder.check(f"{name}: without --device", status == 3 and int(told.split(" ")[1]) in (3, 10), told)
         ended = folder.run("check -b auto --device a.img")
-        folder.check(f"{name}: checked", ended[0] == 0, ended)
+        folder.check(f"{name}: checked", ended[:2] == (0, told_of(name)), ended)
         status, told, printed = folder.run("ls -b auto --json --device a.img")
         wanted = {"/": None, **{path: length for path, length in about["tree"]}}
         folder.check(f"{name}: the device's tree", status == 0 and rows_of(printed) == wanted, (told, rows_of(printed)))
@@ -145,6 +164,9 @@ def written_images_are_read(folder):
             if held is not None:
                 ended = folder.run(f"cat -b {SIZE} --device a.img {path}")
                 folder.check(f"{name}: {path}", ended == (0, "", held), ended)
+        if name in TOLD:
+            ended = folder.run(f"check -b {SIZE} --device a.img")
+            folder.check(f"{name}: checked", ended[:2] == (0, told_of(name)), ended)
         folder.check(f"{name}: what is read stays", folder.old() == bytes_)
 
 

@@ -100,6 +100,7 @@ g\x00\x00\x00\xf0\x0f\xff\xf7littlefs/\xe0\x00\x10\x00\x00\x02\x00\x00\x01\x00\x
 type Heads<'a> = &'a [(usize, &'a [u8])];
 
 /// An image that is to be taken over, and what that makes of it.
+#[derive(Clone, Copy)]
 struct Case<'a> {
     /// The logs of the old image.
     old: Heads<'a>,

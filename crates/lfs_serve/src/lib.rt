@@ -12,6 +12,7 @@ mod seeing;
 mod serving;
 mod stepping;
 mod tree_operations;
+mod unfinished;
 
 pub use laws::requests_lead_on;
 pub use serving::served;

@@ -30,6 +30,6 @@ pub use laws::{
 };
 pub use moved::have_no_state;
 pub use planning::{is_kept, push_unless};
-pub use settling::settle;
+pub use settling::{settle, unfinished};
 pub use threading::{clear_all, end_with};
 pub use within::{read_as, read_within};

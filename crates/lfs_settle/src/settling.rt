@@ -31,3 +31,11 @@ pub fn settle(alloc: Global, image: &mut Image) -> Result<Ended, AllocError>
     put_parts(alloc, image, &plan.changed)?;
     Ok(plan.ended)
 }
+
+/// What is ended of what a device left unfinished, if an image is settled. Takes memory.
+pub fn unfinished<B: Blocks>(alloc: Global, blocks: &B) -> Result<Ended, AllocError>
+    ensures { IfOk result (Ends (later_reading_of (B.disk blocks.now))) }
+{
+    let plan = plan_of(alloc, blocks)?;
+    Ok(plan.ended)
+}
