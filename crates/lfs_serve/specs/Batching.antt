@@ -3,7 +3,6 @@ use Rattle.std.specs.Borrow.{Bor}
 use Rattle.std.specs.Prelude.{◌≡◌, ◌⊎◌, ℕ, Bool, true, if◌then◌else◌, List, [], ◌∷◌, Option, Some, None}
 use Rattle.std.specs.List.{AllByRecursion, AllZip}
 use Rattle.lfs_fs.specs.Limits.{most_file}
-use Rattle.lfs_history.specs.declared.moves.Move.{Move}
 use Rattle.lfs_history.specs.Taking as change
 use Rattle.lfs_history.specs.Taking.{KeepsInRange}
 use Rattle.lfs_request.specs.declared.fault.Fault.{Fault}

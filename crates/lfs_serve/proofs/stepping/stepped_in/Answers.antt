@@ -1,4 +1,4 @@
-use Rattle.std.proofs.Common.{rules, ◌≡◌, Some, None, inl, inr, refl, ap, subst, ◌∙◌, string_bytes}
+use Rattle.std.proofs.Common.{rules, ◌≡◌, List, ℕ, Some, None, inl, inr, refl, ap, subst, ◌∙◌, string_bytes}
 use Rattle.std.proofs.lemmas.Result.{err_from_is_err_and}
 use Rattle.lfs_command.specs.declared.refusal.Refusal.TheVariants.{Memory}
 use Rattle.lfs_request.specs.declared.fault.Fault.TheVariants.{Refused}
@@ -9,6 +9,7 @@ use Rattle.lfs_serve.specs.StepKind.{kind_of}
 use Rattle.lfs_exchange.specs.declared.step_kind.StepKind.{StepKind}
 use Rattle.lfs_host.specs.Scene.{Scene}
 use Rattle.lfs_open.specs.Later.{refused_by}
+use Rattle.lfs_open.specs.ReadBy.{IsReadBy}
 use Rattle.lfs_serve.specs.LaterRead.{later_read}
 use Rattle.lfs_serve.specs.Program.{RunsStep}
 use Rattle.lfs_open.proofs.StopLemmas.{stopped_at, refused_so}
@@ -64,7 +65,8 @@ returns-in_err-stored-in-Ok-clause-ended g c =
     let outcome = c.in-Ok.ensures.ran.0 in
     let runs : RunsStep step manner size name old by_stored None outcome =
     step_ran step manner size name old by_stored h c.in_ok-image.image.items None by_taken.printed outcome is none c.requires.tells
-    c.in_ok-image.ensures.read c.in-Ok.ensures.ran.1 c.in-Ok.ensures.ran.2 c.in-Ok.ensures.ran.3 c.stored.ensures.kept.1 tt in
+    (subst (λ (xs : List ℕ). IsReadBy manner.view size xs c.in_ok-image.image.items) c.note_unfinished-image.ensures c.in_ok-image.ensures.read)
+    c.in-Ok.ensures.ran.1 c.in-Ok.ensures.ran.2 c.in-Ok.ensures.ran.3 c.stored.ensures.kept.1 tt in
     let fault = c.in_err-stored-in-Ok.field-0.0 in
     let spares = spares_at fault c.args.handed.kind (kind_of step) by_stored.has_refused_place old.files by_taken.files by_stored.files name target
     c.as_str.result.now outcome c.in-Ok.outcome c.requires.target (search rules) files c.requires.kind c.in-Ok.ensures.ran.4
@@ -92,7 +94,8 @@ returns-in-Ok-clause-ended g c =
     let outcome = c.in-Ok.ensures.ran.0 in
     let runs : RunsStep step manner size name old by_stored None outcome =
     step_ran step manner size name old by_stored h c.in_ok-image.image.items None by_taken.printed outcome is none c.requires.tells
-    c.in_ok-image.ensures.read c.in-Ok.ensures.ran.1 c.in-Ok.ensures.ran.2 c.in-Ok.ensures.ran.3 c.stored.ensures.kept.1 tt in
+    (subst (λ (xs : List ℕ). IsReadBy manner.view size xs c.in_ok-image.image.items) c.note_unfinished-image.ensures c.in_ok-image.ensures.read)
+    c.in-Ok.ensures.ran.1 c.in-Ok.ensures.ran.2 c.in-Ok.ensures.ran.3 c.stored.ensures.kept.1 tt in
     let leaves = leaves_at c.args.handed.kind (kind_of step) old.files by_taken.files by_stored.files name target c.as_str.result.now outcome
     c.in-Ok.outcome c.requires.target (search rules) files c.requires.kind c.in-Ok.ensures.ran.4 c.in_ok-stored-in-Ok.ensures.files in
     let flushed = subst (λ (kind : StepKind). HandsOn kind by_stored) c.requires.kind c.in_ok-stored-in-Ok.ensures.flushed in
@@ -119,7 +122,8 @@ returns-clause-ended g c =
     let outcome = c.in-Err.ensures.ran.0 in
     let runs : RunsStep step manner size name old by_looked (Some fault) outcome =
     step_ran step manner size name old by_looked h c.in_ok-image.image.items (Some fault) by_taken.printed outcome is none c.requires.tells
-    c.in_ok-image.ensures.read c.in-Err.ensures.ran.1 c.in-Err.ensures.ran.2 c.in-Err.ensures.ran.3 looked.2 (c.stopped.ensures.blamed c.in-Err.ensures.blamed) in
+    (subst (λ (xs : List ℕ). IsReadBy manner.view size xs c.in_ok-image.image.items) c.note_unfinished-image.ensures c.in_ok-image.ensures.read)
+    c.in-Err.ensures.ran.1 c.in-Err.ensures.ran.2 c.in-Err.ensures.ran.3 looked.2 (c.stopped.ensures.blamed c.in-Err.ensures.blamed) in
     let files = looked.0 ∙ c.taken.ensures.kept.0 in
     elim c.stopped.ensures.ended [
       | inl same ↦
