@@ -104,14 +104,14 @@ ROWS = {
 # What `check --device` says of the stored images and of some of the others. Of a directory without an entry nothing is said.
 LEFT_OUT = "that no path leads to is left out; salvage saves it"
 TOLD = {
-    "move": ["blocks 10 and 11: f was being moved; it is read at its new place"],
-    "move-directory": ["blocks 10 and 11: d was being moved; it is read at its new place"],
+    "move": ["/a/f was being moved; it is read at its new place"],
+    "move-directory": ["/a/d was being moved; it is read at its new place"],
     "lost": [f"blocks 10 and 11: a directory with 2 entries {LEFT_OUT}", f"blocks 14 and 15: a directory with 2 entries {LEFT_OUT}"],
-    "out-of-step": ["blocks 16 and 20: a directory stands here, not in blocks 19 and 20, which the thread names"],
-    "the last entry was moved": ["blocks 0 and 1: b was being moved; it is read at its new place"],
+    "out-of-step": ["/d1 stands in blocks 16 and 20, not in blocks 19 and 20, which the thread names"],
+    "the last entry was moved": ["/b was being moved; it is read at its new place"],
     "a directory without an entry": [f"blocks 2 and 3: a directory with 1 entry {LEFT_OUT}"],
     "between others": [f"blocks 2 and 3: a directory with 2 entries {LEFT_OUT}"],
-    "the entry names the new pair": ["blocks 3 and 4: a directory stands here, not in blocks 2 and 3, which the thread names"],
+    "the entry names the new pair": ["/d stands in blocks 3 and 4, not in blocks 2 and 3, which the thread names"],
     "shares that cancel each other": [],
 }
 

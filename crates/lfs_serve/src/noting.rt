@@ -2,10 +2,11 @@
 
 ghost use Rattle.std.specs.Prelude.{◌≡◌};
 
-use crate::unfinished::{lines_within, unfinished_lines};
+use crate::unfinished::{is_nothing, unfinished_lines, unfinished_within};
 use lfs_block::Image;
 use lfs_report::Context;
 use lfs_request::{Manner, Query};
+use lfs_settle::{Ended, unfinished};
 use lfs_step::Step;
 use lfs_survey::image_notes;
 use std::alloc::Global;
@@ -29,30 +30,53 @@ pub(crate) fn note_step(
     }
 }
 
-/// Puts into `context` what is told of what a device left unfinished in an image of these bytes, after what is there, if the image is checked
-/// as a device reads it. Hands the bytes out again. Takes memory, and tells of nothing if it is refused.
-pub(crate) fn note_unfinished(
+/// What is ended of what a device left unfinished in an image of these bytes, if the image is checked as a device reads it; `None` if it is
+/// nothing. Hands the bytes out again. Takes memory, and finds nothing if it is refused.
+pub(crate) fn unfinished_in(
     alloc: Global,
     manner: Manner,
     step: &Step<'_>,
     size: u32,
-    image: Vec<u8>,
-    context: &mut Context,
-) -> Vec<u8>
-    ensures { result.items ≡ image.items }
+    bytes: Vec<u8>,
+) -> (Vec<u8>, Option<Ended>)
+    ensures { result.0.items ≡ bytes.items }
 {
     if !manner.view.by_device || !is_check(step) {
-        return image;
+        return (bytes, None);
     }
     if manner.view.offset.is_some() {
-        if let Ok(lines) = lines_within(alloc, size, &image) {
-            add_lines(context, lines);
-        }
-        return image;
+        let ended = unfinished_within(alloc, size, &bytes).unwrap_or(None);
+        return (bytes, ended);
     }
-    match Image::new(image, size) {
+    match Image::new(bytes, size) {
         Ok(image) => {
-            if let Ok(lines) = unfinished_lines(alloc, &image) {
+            let ended = unfinished(alloc, &image).ok();
+            (image.into_bytes(), ended)
+        }
+        Err((_, bytes)) => (bytes, None),
+    }
+}
+
+/// Puts into `context` what is told of that, after what is there. The image is the one in which it is ended; its bytes are handed out again.
+/// Takes memory, and tells of nothing if it is refused.
+pub(crate) fn note_unfinished(
+    alloc: Global,
+    size: u32,
+    bytes: Vec<u8>,
+    ended: Option<Ended>,
+    context: &mut Context,
+) -> Vec<u8>
+    ensures { result.items ≡ bytes.items }
+{
+    let Some(ended) = ended else {
+        return bytes;
+    };
+    if is_nothing(&ended) {
+        return bytes;
+    }
+    match Image::new(bytes, size) {
+        Ok(image) => {
+            if let Ok(lines) = unfinished_lines(alloc, &image, &ended) {
                 add_lines(context, lines);
             }
             image.into_bytes()

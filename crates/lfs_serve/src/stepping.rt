@@ -16,7 +16,7 @@ ghost use Rattle.lfs_open.specs.Blamed.{IsBlamed};
 ghost use Rattle.lfs_serve.specs.Program.{EndsStep, TellsVersion, as_it_is};
 
 use crate::later_read::pass_step;
-use crate::noting::{note_step, note_unfinished};
+use crate::noting::{note_step, note_unfinished, unfinished_in};
 use crate::seeing::seen_of;
 use lfs_exchange::{Handed, Output, StepKind, flush, stored};
 use lfs_host::Host;
@@ -98,8 +98,9 @@ pub(crate) fn stepped_in<H: Host>(
         image,
         journal,
     } = handed;
-    let image = note_unfinished(alloc, manner, &step, request.size, image, context);
-    let image = read_by(alloc, manner.view, request.size, image)?;
+    let (held, ended) = unfinished_in(alloc, manner, &step, request.size, image);
+    let read = read_by(alloc, manner.view, request.size, held)?;
+    let image = note_unfinished(alloc, request.size, read, ended, context);
     match taken(alloc, host, request, context, step, image, journal) {
         Ok(outcome) => Ok(stored(alloc, host, kind, target.as_str(), &outcome)?),
         Err(stop) => Err(stopped(alloc, host, request.size, kind, target.as_str(), stop)),

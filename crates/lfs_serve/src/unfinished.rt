@@ -2,7 +2,7 @@
 
 use lfs_block::{Image, MAX_BLOCK_COUNT};
 use lfs_settle::{DroppedDirectory, Ended, EndedMove, EndedStep, unfinished};
-use lfs_survey::{BlocksText, Lines, Shown};
+use lfs_survey::{Area, BlocksText, Lines, Place, PlacedPath, Shown, Survey, survey_all};
 use std::alloc::{AllocError, Global};
 
 /// The most blocks that an image has.
@@ -10,43 +10,92 @@ const MOST_BLOCKS: usize = MAX_BLOCK_COUNT as usize;
 /// What is told of a directory that no path leads to.
 const LEFT_OUT: &str = "that no path leads to is left out; salvage saves it";
 
-/// The lines of an image: one for the entry that was being moved, one for each directory with entries that no path leads to, and one for each
-/// directory that stands elsewhere than the thread says. Of them at most a hundred, and how many more there are. Takes memory.
-pub(crate) fn unfinished_lines(alloc: Global, image: &Image) -> Result<Vec<String>, AllocError> {
-    let ended = unfinished(alloc, image)?;
-    let mut lines = Lines::new(alloc);
-    if let Some(moved) = &ended.moved {
-        lines.add(Some(moved_line(alloc, moved)?))?;
-    }
-    add_dropped(alloc, &mut lines, &ended)?;
-    add_steps(alloc, &mut lines, &ended)?;
-    lines.ended(alloc, "directories are left out, or stand elsewhere")
-}
-
-/// The lines of the image of blocks of `size` bytes that bytes begin with, of all complete blocks that are there. Takes memory.
-pub(crate) fn lines_within(
+/// What is ended of what a device left unfinished in the image of blocks of `size` bytes that bytes begin with, of all complete blocks that
+/// are there; `None` if they are no image. Takes memory.
+pub(crate) fn unfinished_within(
     alloc: Global,
     size: u32,
     bytes: &[u8],
-) -> Result<Vec<String>, AllocError> {
+) -> Result<Option<Ended>, AllocError> {
     let Some(count) = bytes.len().checked_div(size as usize) else {
-        return Ok(Vec::new(alloc));
+        return Ok(None);
     };
     let mut own = Vec::from_slice(alloc, bytes)?;
     own.truncate(count.min(MOST_BLOCKS).saturating_mul(size as usize));
     match Image::new(own, size) {
-        Ok(image) => unfinished_lines(alloc, &image),
-        Err(_) => Ok(Vec::new(alloc)),
+        Ok(image) => Ok(Some(unfinished(alloc, &image)?)),
+        Err(_) => Ok(None),
     }
 }
 
+/// Whether nothing is ended.
+pub(crate) fn is_nothing(ended: &Ended) -> bool {
+    ended.moved.is_none() && ended.dropped.is_empty() && ended.steps.is_empty()
+}
+
+/// The lines of an image in which this was ended: one for the entry that was being moved, one for each directory with entries that no path
+/// leads to, and one for each directory that stands elsewhere than the thread says. Of them at most a hundred, and how many more there are.
+/// Takes memory.
+pub(crate) fn unfinished_lines(
+    alloc: Global,
+    image: &Image,
+    ended: &Ended,
+) -> Result<Vec<String>, AllocError> {
+    let survey = survey_all(alloc, image)?;
+    let mut lines = Lines::new(alloc);
+    if let Some(moved) = &ended.moved {
+        lines.add(Some(moved_line(alloc, &survey, moved)?))?;
+    }
+    add_dropped(alloc, &mut lines, ended)?;
+    add_steps(alloc, &mut lines, &survey, ended)?;
+    lines.ended(alloc, "directories are left out, or stand elsewhere")
+}
+
+// ---- pairs of the survey
+
+/// Whether two pairs have the same blocks.
+fn same_blocks(one: (u32, u32), other: (u32, u32)) -> bool {
+    one == other || one == (other.1, other.0)
+}
+
+/// The number of the call of a pair in an area.
+fn call_of(area: &Area, pair: (u32, u32)) -> Option<usize> {
+    for (number, call) in area.calls.iter().enumerate() {
+        if same_blocks(call.pair, pair) {
+            return Some(number);
+        }
+    }
+    None
+}
+
+/// The path of the directory of a pair; `None` if the root doesn't lead there. Takes memory.
+fn path_of(alloc: Global, survey: &Survey, pair: (u32, u32)) -> Result<Option<String>, AllocError> {
+    let Some(root) = survey.areas.first() else {
+        return Ok(None);
+    };
+    let Some(call) = call_of(root, pair) else {
+        return Ok(None);
+    };
+    let path = PlacedPath::of_pair(alloc, survey, Place { area: 0, call })?;
+    Ok(Some(format!(in alloc; "{path}")?))
+}
+
+// ---- lines
+
 /// What is told of an entry that was being moved.
-fn moved_line(alloc: Global, moved: &EndedMove) -> Result<String, AllocError> {
-    let blocks = BlocksText { pair: moved.pair };
+fn moved_line(alloc: Global, survey: &Survey, moved: &EndedMove) -> Result<String, AllocError> {
     let name = Shown {
         bytes: &moved.entry.name,
     };
-    format!(in alloc; "{blocks}: {name} was being moved; it is read at its new place")
+    let blocks = BlocksText { pair: moved.pair };
+    match path_of(alloc, survey, moved.pair)? {
+        None => format!(in alloc; "{blocks}: {name} was being moved; it is read at its new place"),
+        Some(path) => {
+            let at = path.as_str();
+            let slash = if at == "/" { "" } else { "/" };
+            format!(in alloc; "{at}{slash}{name} was being moved; it is read at its new place")
+        }
+    }
 }
 
 /// What is told of a directory that no path leads to; nothing if it has no entry.
@@ -61,10 +110,20 @@ fn dropped_line(alloc: Global, dropped: &DroppedDirectory) -> Result<Option<Stri
 }
 
 /// What is told of a directory that stands elsewhere than the thread says.
-fn step_line(alloc: Global, step: &EndedStep) -> Result<String, AllocError> {
+fn step_line(alloc: Global, survey: &Survey, step: &EndedStep) -> Result<String, AllocError> {
     let to = BlocksText { pair: step.to };
     let from = BlocksText { pair: step.from };
-    format!(in alloc; "{to}: a directory stands here, not in {from}, which the thread names")
+    match path_of(alloc, survey, step.to)? {
+        None => {
+            format!(in alloc;
+                "{to}: a directory stands here, not in {from}, which the thread names"
+            )
+        }
+        Some(path) => {
+            let at = path.as_str();
+            format!(in alloc; "{at} stands in {to}, not in {from}, which the thread names")
+        }
+    }
 }
 
 /// Adds a line for each directory that no path leads to.
@@ -78,10 +137,15 @@ fn add_dropped(alloc: Global, lines: &mut Lines, ended: &Ended) -> Result<(), Al
 }
 
 /// Adds a line for each directory that stands elsewhere.
-fn add_steps(alloc: Global, lines: &mut Lines, ended: &Ended) -> Result<(), AllocError> {
+fn add_steps(
+    alloc: Global,
+    lines: &mut Lines,
+    survey: &Survey,
+    ended: &Ended,
+) -> Result<(), AllocError> {
     for step in &ended.steps {
         if lines.takes_one() {
-            lines.add(Some(step_line(alloc, step)?))?;
+            lines.add(Some(step_line(alloc, survey, step)?))?;
         }
     }
     Ok(())

@@ -1,4 +1,4 @@
-use Rattle.std.proofs.Common.{rules, ◌≡◌, List, ℕ, Some, None, inl, inr, refl, ap, subst, ◌∙◌, string_bytes}
+use Rattle.std.proofs.Common.{rules, ◌≡◌, List, ℕ, Some, None, inl, inr, refl, ap, sym, subst, ◌∙◌, string_bytes}
 use Rattle.std.proofs.lemmas.Result.{err_from_is_err_and}
 use Rattle.lfs_command.specs.declared.refusal.Refusal.TheVariants.{Memory}
 use Rattle.lfs_request.specs.declared.fault.Fault.TheVariants.{Refused}
@@ -36,13 +36,13 @@ returns-in_err-pass_step-clause-ended g c =
     ends_later step manner size name old old h (stopped_by c.from_residual.result) fault
     (stopped_at c.from_residual.result fault p.0 p.1 (ap (λ s. s.fault) p.2)) is refused (refl, refl)
 
-pub returns-in_err-image-clause-ended : goal.returns-in_err-image-clause-ended
-returns-in_err-image-clause-ended g c =
+pub returns-in_err-read-clause-ended : goal.returns-in_err-read-clause-ended
+returns-in_err-read-clause-ended g c =
     let old : Scene = g.H.Known.known c.args.host.now in
-    let on = c.from_residual-in_err-image in
+    let on = c.from_residual-in_err-read in
     let p = err_from_is_err_and on.result on.ensures.1 in
     ends_wanting c.args.step c.args.manner c.args.request.now.size c.args.request.now.image.now old old _ (Refused Memory)
-    (stopped_at on.result (Refused Memory) p.0 p.1 p.2) (c.in_err-image.ensures.refused, refl) (refl, refl)
+    (stopped_at on.result (Refused Memory) p.0 p.1 p.2) (c.in_err-read.ensures.refused, refl) (refl, refl)
 
 pub returns-in_err-stored-in-Ok-clause-ended : goal.returns-in_err-stored-in-Ok-clause-ended
 returns-in_err-stored-in-Ok-clause-ended g c =
@@ -64,8 +64,9 @@ returns-in_err-stored-in-Ok-clause-ended g c =
     let files = c.taken.ensures.kept.0 in
     let outcome = c.in-Ok.ensures.ran.0 in
     let runs : RunsStep step manner size name old by_stored None outcome =
-    step_ran step manner size name old by_stored h c.in_ok-image.image.items None by_taken.printed outcome is none c.requires.tells
-    (subst (λ (xs : List ℕ). IsReadBy manner.view size xs c.in_ok-image.image.items) c.note_unfinished-image.ensures c.in_ok-image.ensures.read)
+    step_ran step manner size name old by_stored h c.note_unfinished-image.result.items None by_taken.printed outcome is none c.requires.tells
+    (subst (IsReadBy manner.view size h.image) (sym c.note_unfinished-image.ensures)
+    (subst (λ (xs : List ℕ). IsReadBy manner.view size xs c.in_ok-read.read.items) c.unfinished_in-held.ensures c.in_ok-read.ensures.read))
     c.in-Ok.ensures.ran.1 c.in-Ok.ensures.ran.2 c.in-Ok.ensures.ran.3 c.stored.ensures.kept.1 tt in
     let fault = c.in_err-stored-in-Ok.field-0.0 in
     let spares = spares_at fault c.args.handed.kind (kind_of step) by_stored.has_refused_place old.files by_taken.files by_stored.files name target
@@ -93,8 +94,9 @@ returns-in-Ok-clause-ended g c =
     let files = c.taken.ensures.kept.0 in
     let outcome = c.in-Ok.ensures.ran.0 in
     let runs : RunsStep step manner size name old by_stored None outcome =
-    step_ran step manner size name old by_stored h c.in_ok-image.image.items None by_taken.printed outcome is none c.requires.tells
-    (subst (λ (xs : List ℕ). IsReadBy manner.view size xs c.in_ok-image.image.items) c.note_unfinished-image.ensures c.in_ok-image.ensures.read)
+    step_ran step manner size name old by_stored h c.note_unfinished-image.result.items None by_taken.printed outcome is none c.requires.tells
+    (subst (IsReadBy manner.view size h.image) (sym c.note_unfinished-image.ensures)
+    (subst (λ (xs : List ℕ). IsReadBy manner.view size xs c.in_ok-read.read.items) c.unfinished_in-held.ensures c.in_ok-read.ensures.read))
     c.in-Ok.ensures.ran.1 c.in-Ok.ensures.ran.2 c.in-Ok.ensures.ran.3 c.stored.ensures.kept.1 tt in
     let leaves = leaves_at c.args.handed.kind (kind_of step) old.files by_taken.files by_stored.files name target c.as_str.result.now outcome
     c.in-Ok.outcome c.requires.target (search rules) files c.requires.kind c.in-Ok.ensures.ran.4 c.in_ok-stored-in-Ok.ensures.files in
@@ -121,8 +123,9 @@ returns-clause-ended g c =
     let looked = c.stopped.ensures.kept.0 in
     let outcome = c.in-Err.ensures.ran.0 in
     let runs : RunsStep step manner size name old by_looked (Some fault) outcome =
-    step_ran step manner size name old by_looked h c.in_ok-image.image.items (Some fault) by_taken.printed outcome is none c.requires.tells
-    (subst (λ (xs : List ℕ). IsReadBy manner.view size xs c.in_ok-image.image.items) c.note_unfinished-image.ensures c.in_ok-image.ensures.read)
+    step_ran step manner size name old by_looked h c.note_unfinished-image.result.items (Some fault) by_taken.printed outcome is none c.requires.tells
+    (subst (IsReadBy manner.view size h.image) (sym c.note_unfinished-image.ensures)
+    (subst (λ (xs : List ℕ). IsReadBy manner.view size xs c.in_ok-read.read.items) c.unfinished_in-held.ensures c.in_ok-read.ensures.read))
     c.in-Err.ensures.ran.1 c.in-Err.ensures.ran.2 c.in-Err.ensures.ran.3 looked.2 (c.stopped.ensures.blamed c.in-Err.ensures.blamed) in
     let files = looked.0 ∙ c.taken.ensures.kept.0 in
     elim c.stopped.ensures.ended [
