@@ -142,6 +142,12 @@ class Device:
         with self.fs.open(call["path"], "ab") as opened:
             opened.write(pattern(call["seed"], call["size"]))
 
+    def change(self, call):
+        """Writes over a part of a file."""
+        with self.fs.open(call["path"], "r+b") as opened:
+            opened.seek(call["at"])
+            opened.write(pattern(call["seed"], call["size"]))
+
     def again(self, call):
         """Writes a file so many times."""
         for turn in range(call["times"]):
