@@ -124,9 +124,10 @@ const EXPLANATIONS: [Explanation; 50] = [
     Explanation {
         number: 17,
         name: "Orphan",
-        text: "A directory can't be reached from the root: a device was stopped while it made, removed or \
-         moved one. `--device` reads the image without it, and `repack --device` makes an image of the \
-         rest. If it is refused with `--device` too, it is damaged.",
+        text: "No path leads to a directory: a device was stopped while it made, removed or moved one, or \
+         moved one below itself, which littlefs allows. `--device` reads the image without it, `repack \
+         --device` makes an image of the rest, and `salvage` saves the directory too. If it is \
+         refused with `--device` too, it is damaged.",
     },
     Explanation {
         number: 18,
