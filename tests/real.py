@@ -5,9 +5,7 @@ In each life littlefs formats a flash and changes it by random calls: over sever
 thousands of writes, so that pairs move and the superblock is expanded, or until the flash is full. In half of them the power fails at last,
 at one of the writes of a call. The program reads, salvages and repacks that image, finds it in a dump, and littlefs mounts the copy. Then the program changes the copy, takes changes back and makes them again;
 littlefs mounts each image that it leaves. At last littlefs changes the copy, and the program reads that. All listings, contents, times and
-attributes are compared.
-
-On a full flash littlefs may give one block to two things, and destroys one of them at a later change. The program has to refuse that image."""
+attributes are compared."""
 import multiprocessing
 import pathlib
 import random
@@ -18,15 +16,12 @@ import tempfile
 
 from support.counts import Counts
 from support.folder import HOME, PROGRAM
-from support.later import DeviceReader
 from support.random_steps import Model
 from support.real import NO_POWER, TIME, Device, Refused, pattern, real_littlefs, rows_of, sha256, times_of
 
 LIVES = 40
 BLOCKS = 256, 512, 512, 1024, 4096
 ROOM = 43
-# The faults of an image in which a block is used twice.
-TWICE = 8, 15
 
 
 class Life:
@@ -167,15 +162,6 @@ class Life:
             return
         unlike = {path for path in {*rows, *listed} if rows.get(path) != listed.get(path)}
         self.check(f"{what}: what the device lists", not unlike, [(path, rows.get(path), listed.get(path)) for path in sorted(unlike)][:3])
-
-    def is_given_twice(self):
-        """Whether the program refuses the device's image as one that uses a block twice, which a reader apart from it has to find too."""
-        ended = self.run("check", "--device", "-b", "auto", self.name)
-        if ended[1] not in TWICE:
-            return False
-        used = DeviceReader((self.folder / self.name).read_bytes(), self.block).used()
-        self.check("refused, and littlefs gave a block twice", len({*used}) < len(used), ended)
-        return True
 
     def repack(self):
         """Makes an image of version 2.0 of the device's, which the device mounts; answers what it holds."""
@@ -332,8 +318,6 @@ class Life:
         self.begin()
         if self.chance.random() < 0.5:
             self.lose_power()
-        if self.is_given_twice():
-            return
         self.in_a_dump()
         found = self.repack()
         if found:
