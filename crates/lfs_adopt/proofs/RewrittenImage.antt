@@ -4,7 +4,7 @@ use Rattle.std.proofs.Common.{refl, ap, sym, ◌∙◌, subst, arith, append-nil
 use Rattle.std.specs.Prelude.{Contains, option_map}
 use Rattle.std.proofs.lemmas.List.Elements.{Contains-append_cases}
 use Rattle.std.proofs.lemmas.List.Sums.{sum_by-append}
-use Rattle.lfs_block.specs.Disk.{Disk, erased_block}
+use Rattle.lfs_block.specs.Disk.{Disk}
 use Rattle.lfs_meta.specs.Body.{Pair}
 use Rattle.lfs_meta.specs.Entry.{StoredEntry}
 use Rattle.lfs_meta.specs.Part.{StoredPart}
@@ -16,6 +16,7 @@ use Rattle.lfs_fs.proofs.FrontLemmas.{fronts_begin_each_other}
 use Rattle.lfs_lower.specs.Alone.{IsAlone, IsLeft, IsSame}
 use Rattle.lfs_lower.specs.Anew.{IsSpelledAnew, ReadsBlocks}
 use Rattle.lfs_lower.specs.OneSuperblock.{can_join, last_superblock, one_superblock, part_as_one, part_joined, superblock_pairs}
+use Rattle.lfs_lower.proofs.AloneBlocks.{alone_on}
 use Rattle.lfs_lower.proofs.HeldAnew.{reads_itself}
 use Rattle.lfs_lower.proofs.JoinedHeld.{joined_is_anew, reads_one}
 use Rattle.lfs_lower.proofs.LongestFronts.{AgreeAt, IsLongest, longest_is, pairs_name_both}
@@ -69,10 +70,6 @@ pairs_of_one r =
     along_alike (next_pair r) (next_pair (one_superblock r)) r.count [] r.count (Some root) (λ p there. step_same r p (r.part p))
 
 -- ---- pairs of which no older state can be taken
-
-alone_on : (x y : Disk) (p : Pair) → y.size ≡ x.size → IsSame x y p → IsAlone x p → IsAlone y p
-alone_on x y p size same (inl is) = inl (same.0 ∙ is ∙ ap erased_block (sym size))
-alone_on x y p size same (inr is) = inr (same.1 ∙ is ∙ ap erased_block (sym size))
 
 left_on : (d x y : Disk) (p : Pair) → IsSame x y p → IsLeft d x p → IsLeft d y p
 left_on d x y p same is = record {

@@ -12,7 +12,6 @@ use Rattle.lfs_meta.specs.LiveBlock.{committed, committed_log, is_later, live_ta
 use Rattle.lfs_meta.proofs.HeldPartLemmas.{block_bytes}
 use Rattle.lfs_fs.specs.Gathering.{PairPart}
 use Rattle.lfs_pair.specs.Writing.{IsPartBlock}
-use Rattle.lfs_pair.proofs.LiveAfter.{live_after, live_before, live_neither}
 use Rattle.lfs_pair.proofs.LogLemmas.{erased-uncommitted}
 use Rattle.lfs_lower.specs.Alone.{AreOf, IsPlain, IsSame, IsWrittenAlone}
 use Rattle.lfs_lower.specs.LaterReading.{later_part_of, live_by}
@@ -20,7 +19,7 @@ use Rattle.lfs_lower.specs.Laws.{LivesAreRead, LoweredBlocksAreRead}
 use Rattle.lfs_lower.specs.Lowered.{IsBlockLowered, IsLaterLive, IsPairLowered, IsReadFor}
 use Rattle.lfs_lower.specs.Spelled.{is_root_block, lowered_block, lowered_tags}
 use Rattle.lfs_lower.proofs.LoweredBlocks.{live-is}
-use Rattle.lfs_lower.proofs.AloneBlocks.{alone_by, held_by, others_by, part_by}
+use Rattle.lfs_lower.proofs.AloneBlocks.{alone_by, first_of, held_by, others_by, part_by, second_of}
 
 -- ---- a block
 
@@ -79,15 +78,6 @@ lowered_part lives d f pair disk first_within second_within first second =
 
 -- ---- a pair with one block
 
--- of two blocks, one of which has no commit, the tags of the other are read, in both orders
-first_of : (tags : Option (List Item)) (new other : List ℕ) → committed new ≡ tags → committed other ≡ None → live_tags new other ≡ tags
-first_of None new other here none = live_neither new other here none
-first_of (Some ts) new other here none = live_before new other ts here none
-
-second_of : (tags : Option (List Item)) (new other : List ℕ) → committed new ≡ tags → committed other ≡ None → live_tags other new ≡ tags
-second_of None new other here none = live_neither other new none here
-second_of (Some ts) new other here none = live_after new other ts here none
-
 -- the live block lowered is read for the pair
 pub lowered_for : LoweredBlocksAreRead → ErasedBlock → LogIsRead → (d : Disk) (pair : Pair) (live beside : ℕ) (block : List ℕ) → IsDisk d
     → live < d.count → IsLaterLive d pair live beside → block ≡ lowered_block (is_root_block live) (block_of d live) → IsReadFor d pair block
@@ -109,14 +99,16 @@ pub anew_for : (d : Disk) (p : PairPart) (number : ℕ) (block : List ℕ) → l
 anew_for d p number block read is =
     record { len = is.len; before_erased = is.before_erased ∙ sym read; behind_erased = is.behind_erased ∙ sym read }
 
--- such a block, beside an erased one, lowers the pair
-pub alone_lowered : (d e : Disk) (pair : Pair) (live beside : ℕ) (block : List ℕ) → AreOf pair live beside → IsReadFor d pair block
-    → IsWrittenAlone d e live beside block → IsPairLowered d e pair
-alone_lowered d e pair live beside block of is written = record {
+-- such a block, beside one that says nothing, lowers the pair
+pub alone_lowered : ErasedBlock → LogIsRead → (d e : Disk) (pair : Pair) (live beside : ℕ) (block : List ℕ) → IsDisk d → AreOf pair live beside
+    → IsReadFor d pair block → IsWrittenAlone d e live beside block → IsPairLowered d e pair
+alone_lowered erased log d e pair live beside block disk of is written = record {
   disk = written.disk;
   size = written.size;
   count = written.count;
-  held = held_by d e pair live beside block (later_part_of d pair) of written is.before_erased is.behind_erased;
+  held =
+      let none = erased-uncommitted erased log d.size (omega (arith, disk.geometry.size_fits.0)) in
+      held_by d e pair live beside block (later_part_of d pair) none of written is.before_erased is.behind_erased;
   alone = inr (alone_by d e pair live beside block of written);
   others = others_by d e pair live beside block of written;
 }

@@ -6,26 +6,30 @@ use Rattle.std.proofs.lemmas.List.{take-map, take_more}
 use Rattle.std.proofs.lemmas.List.Elements.{Contains-push_cases}
 use Rattle.std.proofs.lemmas.List.Sums.{sum_by-cons, sum_by-take-le}
 use Rattle.lfs_block.specs.Disk.{Disk, IsDisk, erased_block}
+use Rattle.lfs_tag.specs.Laws.{ErasedBlock, LogIsRead}
 use Rattle.lfs_meta.specs.Body.{Pair}
 use Rattle.lfs_meta.specs.Laws.{PartsDependOnTheirBlocks}
 use Rattle.lfs_meta.specs.LiveBlock.{stored_part_of}
 use Rattle.lfs_pair.specs.Writing.{IsPartBlock}
+use Rattle.lfs_pair.proofs.LogLemmas.{erased-uncommitted}
 use Rattle.lfs_fs.specs.Front.{pair_names, pairs_name}
 use Rattle.lfs_fs.specs.Gathering.{PairPart}
 use Rattle.lfs_fs.proofs.ContainsLemmas.{contains_cases, contains_none}
 use Rattle.lfs_lower.specs.Alone.{AreOf, IsAlone, IsSame, IsWrittenAlone}
 use Rattle.lfs_lower.specs.Joining.{ArePartsPut, IsPartPut}
-use Rattle.lfs_lower.proofs.AloneBlocks.{alone_by, held_by, others_by}
+use Rattle.lfs_lower.proofs.AloneBlocks.{alone_by, alone_on, held_by, others_by}
 
 -- ---- one pair
 
-pub part_put : (d e : Disk) (p : PairPart) (live beside number : ℕ) (block : List ℕ) → AreOf p.0 live beside → IsPartBlock d.size number p.1 block
-    → IsWrittenAlone d e live beside block → IsPartPut d e p
-part_put d e p live beside number block of h written = record {
+pub part_put : ErasedBlock → LogIsRead → (d e : Disk) (p : PairPart) (live beside number : ℕ) (block : List ℕ) → IsDisk d
+    → AreOf p.0 live beside → IsPartBlock d.size number p.1 block → IsWrittenAlone d e live beside block → IsPartPut d e p
+part_put erased log d e p live beside number block disk of h written = record {
   disk = written.disk;
   size = written.size;
   count = written.count;
-  held = held_by d e p.0 live beside block (Some p.1) of written h.before_erased h.behind_erased;
+  held =
+      let none = erased-uncommitted erased log d.size (omega (arith, disk.geometry.size_fits.0)) in
+      held_by d e p.0 live beside block (Some p.1) none of written h.before_erased h.behind_erased;
   alone = inr (alone_by d e p.0 live beside block of written);
   others = others_by d e p.0 live beside block of written;
 }
@@ -90,8 +94,7 @@ module _ (depend : PartsDependOnTheirBlocks) (d e f : Disk) (ps : List PairPart)
       let same = still_same q there in
       elim (old.alone q there) [
         | inl is ↦ inl (same.0 ∙ is.0, same.1 ∙ is.1)
-        | inr (inl is) ↦ inr (inl (same.0 ∙ is ∙ ap erased_block (sym new.size)))
-        | inr (inr is) ↦ inr (inr (same.1 ∙ is ∙ ap erased_block (sym new.size)))
+        | inr alone ↦ inr (alone_on e f q.0 new.size same alone)
       ]
 
   -- its blocks are the same in both, unless the pair is the new one

@@ -1,13 +1,26 @@
 //! A block of a pair written alone.
 
-ghost use Rattle.std.specs.Prelude.{◌≡◌, ◌≢◌, ◌<◌, OnOk, length};
+ghost use Rattle.std.specs.Prelude.{◌≡◌, ◌≢◌, ◌<◌, ◌≤◌, IfOk, OnOk, length};
 ghost use Rattle.lfs_block.specs.Bytes.{IsBytes};
-ghost use Rattle.lfs_lower.specs.Alone.{IsWrittenAlone};
+ghost use Rattle.lfs_lower.specs.Alone.{IsWrittenAlone, is_silent};
 
+use crate::kept::kept_edits;
 use lfs_block::{Blocks, Image, put_blocks_stand};
+use lfs_tag::Log;
 use std::alloc::{AllocError, Global};
 
-/// Writes a block of an image, and erases the one beside it. Memory that is refused changes nothing. Takes memory.
+/// Whether neither version reads a commit of a block. Takes memory.
+fn is_silent(alloc: Global, block: &[u8]) -> Result<bool, AllocError>
+    requires { 4 ≤ length block.now }
+    ensures { IfOk result (λ silent. is_silent block.now ≡ silent) }
+{
+    let kept = kept_edits(alloc, false, block)?;
+    let log = Log::read(block);
+    Ok(kept.is_none() && log.commits == 0)
+}
+
+/// Writes a block of an image, and erases the one beside it. A block of which neither version reads a commit stays as it is: it says nothing,
+/// and a file may have it too. Memory that is refused changes nothing. Takes memory.
 pub(crate) fn write_alone(
     alloc: Global,
     image: &mut Image,
@@ -22,7 +35,12 @@ pub(crate) fn write_alone(
     ensures written { OnOk result (IsWrittenAlone image.old.disk image.new.disk live beside block.now) }
 {
     put_blocks_stand();
-    let erased = vec![in alloc; 0xff; image.size() as usize]?;
+    let size = image.size();
+    if is_silent(alloc, image.block(beside))? {
+        image.write_block(live, block);
+        return Ok(());
+    }
+    let erased = vec![in alloc; 0xff; size as usize]?;
     image.write_block(live, block);
     image.write_block(beside, &erased);
     Ok(())

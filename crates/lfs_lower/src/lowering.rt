@@ -127,13 +127,15 @@ fn block_for(
 
 /// Lowers a pair: it holds what version 2.1 reads of it then. A pair of which version 2.0 reads that already stays as it is. In another one
 /// the block that version 2.1 takes for the live one keeps its place and its revision, and says all in one commit; the one beside it is
-/// erased. The superblock states 2.0 in the place of 2.1. Memory that is refused changes nothing. Takes memory.
+/// erased, unless it says nothing. The superblock states 2.0 in the place of 2.1. Memory that is refused changes nothing. Takes memory.
 pub fn lower_pair(alloc: Global, image: &mut Image, pair: (u32, u32)) -> Result<(), AllocError>
     requires apart { pair.0 ≢ pair.1 }
     requires first { pair.0 < image.old.disk.count }
     requires second { pair.1 < image.old.disk.count }
     ensures { OnOk result (IsPairLowered image.old.disk image.new.disk pair) }
 {
+    erased_block();
+    log_is_read();
     let _fits_the_limits = image.size();
     if is_plain_pair(alloc, image, pair)? {
         return Ok(());

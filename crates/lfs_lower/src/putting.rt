@@ -11,6 +11,7 @@ use crate::alone::write_alone;
 use lfs_block::{Blocks, Image};
 use lfs_meta::{LiveBlock, Part, Tail, parts_depend_on_their_blocks, revision};
 use lfs_pair::{holds_part, part_block, part_weight};
+use lfs_tag::laws::{erased_block, log_is_read};
 use std::alloc::{AllocError, Global};
 
 /// The most entries that one pair holds.
@@ -78,8 +79,8 @@ fn places_of<B: Blocks>(blocks: &B, pair: (u32, u32)) -> PairPlaces
     }
 }
 
-/// Writes a part into its pair: the live block keeps its place and its revision, and the one beside it is erased. A pair that holds the part
-/// already stays as it is. Memory that is refused changes nothing. Takes memory.
+/// Writes a part into its pair: the live block keeps its place and its revision, and the one beside it is erased, unless it says nothing. A
+/// pair that holds the part already stays as it is. Memory that is refused changes nothing. Takes memory.
 fn put_part(alloc: Global, image: &mut Image, part: &Part) -> Result<(), AllocError>
     requires { CanPut image.old.disk part.now }
     ensures { OnOk result (IsPartPut image.old.disk image.new.disk part.now) }
@@ -90,12 +91,14 @@ fn put_part(alloc: Global, image: &mut Image, part: &Part) -> Result<(), AllocEr
     }
     let places = places_of(image, part.pair);
     let block = part_block(alloc, size, places.revision, part)?;
+    erased_block();
+    log_is_read();
     write_alone(alloc, image, places.live, places.beside, &block)
 }
 
 /// Writes parts into their pairs, no two of which have a block in common: each live block keeps its place and its revision, and the one
-/// beside it is erased. Pairs that hold their parts already stay as they are. If memory is refused, those that come first are written.
-/// Takes memory.
+/// beside it is erased, unless it says nothing. Pairs that hold their parts already stay as they are. If memory is refused, those that come
+/// first are written. Takes memory.
 pub fn put_parts(alloc: Global, image: &mut Image, parts: &[Part]) -> Result<(), AllocError>
     requires can { All (CanPut image.old.disk) parts.now }
     requires apart { (b : ℕ) → pairs_name b (map (λ p. p.0) parts.now) ≤ 1 }

@@ -5,7 +5,7 @@ use Rattle.std.proofs.lemmas.Bool.Decides.{nat_tests}
 use Rattle.std.proofs.lemmas.List.{take_more}
 use Rattle.std.proofs.lemmas.List.Elements.{Contains-push_cases}
 use Rattle.std.proofs.lemmas.List.Sums.{sum_by-take-le}
-use Rattle.lfs_block.specs.Disk.{Disk, block_of, erased_block}
+use Rattle.lfs_block.specs.Disk.{Disk, block_of}
 use Rattle.lfs_meta.specs.Body.{Pair}
 use Rattle.lfs_meta.specs.Laws.{PartsDependOnTheirBlocks}
 use Rattle.lfs_meta.specs.LiveBlock.{committed, stored_part_of}
@@ -15,6 +15,7 @@ use Rattle.lfs_lower.specs.Alone.{IsAlone, IsLeft, IsPlain, IsSame}
 use Rattle.lfs_lower.specs.LaterReading.{later_part_of}
 use Rattle.lfs_lower.specs.Lowered.{IsPairLowered}
 use Rattle.lfs_lower.specs.Spelled.{is_root_block, lowered_tags}
+use Rattle.lfs_lower.proofs.AloneBlocks.{alone_on}
 use Rattle.lfs_lower.proofs.FreshPairs.{IsFresh}
 use Rattle.lfs_lower.proofs.LongestFronts.{pairs_name_both}
 use Rattle.lfs_lower.proofs.LoweredPairs.{later_same}
@@ -50,8 +51,7 @@ module _ (depend : PartsDependOnTheirBlocks) (d e f : Disk) (ps : List Pair) (p 
           second_plain = is.second_plain;
           same = (same.0 ∙ is.same.0, same.1 ∙ is.same.1);
         })
-        | inr (inl is) ↦ inr (inl (same.0 ∙ is ∙ ap erased_block (sym new.size)))
-        | inr (inr is) ↦ inr (inr (same.1 ∙ is ∙ ap erased_block (sym new.size)))
+        | inr alone ↦ inr (alone_on e f q new.size same alone)
       ]
 
   plain_before : (b : ℕ) → block_of e b ≡ block_of d b → IsPlain e b → IsPlain d b

@@ -7,7 +7,7 @@ use Rattle.std.proofs.lemmas.Bool.{and_parts, both_ways, eqb-true}
 use Rattle.std.proofs.lemmas.Slice.Eq.{bytes_eq-Decides}
 use Rattle.std.proofs.lemmas.List.Elements.{All-contains, All-map, All-nil, All-weaker}
 use Rattle.std.proofs.lemmas.List.Sums.{sum_by-cons}
-use Rattle.lfs_block.specs.Disk.{Disk, erased_block}
+use Rattle.lfs_block.specs.Disk.{Disk}
 use Rattle.lfs_meta.specs.declared.tail.Tail.{Tail}
 use Rattle.lfs_meta.specs.declared.tail.Tail.TheVariants.{End, Hard, Soft}
 use Rattle.lfs_meta.specs.Body.{Pair}
@@ -27,6 +27,7 @@ use Rattle.lfs_lower.specs.Joining.{ArePartsPut, CanPut}
 use Rattle.lfs_lower.specs.Alone.{IsAlone, IsLeft, IsSame}
 use Rattle.lfs_lower.specs.LaterReading.{later_reading_of}
 use Rattle.lfs_lower.specs.OneSuperblock.{can_be_put}
+use Rattle.lfs_lower.proofs.AloneBlocks.{alone_on}
 use Rattle.lfs_lower.proofs.LongestFronts.{names_first}
 use Rattle.lfs_lower.proofs.PartsPut.{pair_in, pairs_in}
 use Rattle.lfs_settle.specs.InStep.{has_thread, in_step, pairs_named, stepped_part, thread_pairs, thread_parts}
@@ -313,8 +314,7 @@ module _ (depend : PartsDependOnTheirBlocks) (d m e : Disk) where
   left_by : (p : Pair) → IsSame m e p → IsLeft d m p ⊎ IsAlone m p → e.size ≡ m.size → IsLeft d e p ⊎ IsAlone e p
   left_by p same (inl is) size =
       inl (record { first_plain = is.first_plain; second_plain = is.second_plain; same = (same.0 ∙ is.same.0, same.1 ∙ is.same.1) })
-  left_by p same (inr (inl is)) size = inr (inl (same.0 ∙ is ∙ ap erased_block (sym size)))
-  left_by p same (inr (inr is)) size = inr (inr (same.1 ∙ is ∙ ap erased_block (sym size)))
+  left_by p same (inr alone) size = inr (alone_on m e p size same alone)
 
   abbrev old : Reading
   old = later_reading_of d

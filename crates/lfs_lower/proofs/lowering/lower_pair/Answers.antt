@@ -40,5 +40,6 @@ returns c =
     let live : ℕ = c.in_ok-live.live in
     let beside : ℕ = c.in_ok-live.beside in
     let block : IsReadFor d c.args.pair c.deref.result.now = subst (IsReadFor d c.args.pair) (sym c.deref.ensures.value) c.in_ok-block.ensures in
-    on_ok_weaker c.write_alone.result (alone_lowered d e c.args.pair live beside c.deref.result.now c.in_ok-live.ensures.of block)
+    on_ok_weaker c.write_alone.result (alone_lowered c.erased_block.ensures c.log_is_read.ensures d e c.args.pair live beside c.deref.result.now c.size-fits_the_limits.ensures.disk
+    c.in_ok-live.ensures.of block)
     c.write_alone.ensures.written

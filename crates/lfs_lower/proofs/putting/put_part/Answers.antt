@@ -60,5 +60,6 @@ returns c =
     let block : IsPartBlock d.size number p.1 c.deref.result.now =
     subst (IsPartBlock d.size number p.1) (sym c.deref.ensures.value)
     (subst (λ (n : ℕ). IsPartBlock n number p.1 c.in_ok-block.block.items) c.size-size.ensures.value c.in_ok-block.ensures) in
-    on_ok_weaker c.write_alone.result (λ written. part_put d e p live beside number c.deref.result.now of block written)
+    on_ok_weaker c.write_alone.result (λ written.
+    part_put c.erased_block.ensures c.log_is_read.ensures d e p live beside number c.deref.result.now c.size-size.ensures.disk of block written)
     c.write_alone.ensures.written
