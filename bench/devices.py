@@ -1,17 +1,18 @@
 #!/usr/bin/env python3
 """Measures `check --device` of an image of 64 MiB in blocks of 4,096 bytes, as a device of disk version 2.1 writes it, beside `check` of the
-one of version 2.0 with the same tree, by processor time: of each the least of fifteen runs. Ends with 1 where its mark is missed."""
+one of version 2.0 with the same tree, and `adopt` of it beside that: by processor time, of each the least of fifteen runs. Ends with 1 if a
+mark is missed."""
 import pathlib
 import struct
 import subprocess
 import tempfile
 
-from measures import cost, end, mark, mixed_files
+from measures import copy_anew, cost, end, mark, mixed_files
 from support.folder import PROGRAM
 from support.later import LATER, written
 from support.littlefs import Log, Reader
 
-SIZE, COUNT, ROUNDS, MOST = 4_096, 16_384, 15, 1.5
+SIZE, COUNT, ROUNDS, MOST, MOST_TO_ADOPT = 4_096, 16_384, 15, 1.5, 2
 HEADER = 0x201
 
 
@@ -39,14 +40,22 @@ def raised(image):
     return bytes(blocks)
 
 
+def adopted(image, copy):
+    """The processor time that taking over a copy of an image takes."""
+    copy_anew(image, copy)
+    return cost([PROGRAM, "adopt", "--block", str(SIZE), copy]).processor
+
+
 def main():
     with tempfile.TemporaryDirectory() as folder:
         room = pathlib.Path(folder)
         (room / "b.img").write_bytes(raised(packed(room)))
         words = ["check", "--block", str(SIZE), room / "a.img"], ["check", "--block", str(SIZE), "--device", room / "b.img"]
         plain, device = (min(cost([PROGRAM, *run]).processor for _ in range(ROUNDS)) for run in words)
-    print(f"64 MiB: check {1_000 * plain:.1f} ms, check --device of version 2.1 {1_000 * device:.1f} ms")
+        taken = min(adopted(room / "b.img", room / "c.img") for _ in range(ROUNDS))
+    print(f"64 MiB: check {1_000 * plain:.1f} ms, check --device of version 2.1 {1_000 * device:.1f} ms, adopt {1_000 * taken:.1f} ms")
     mark("check --device by check", device / plain, MOST)
+    mark("adopt by check --device", taken / device, MOST_TO_ADOPT)
     end()
 
 

@@ -20,7 +20,7 @@ _lfsed() {
   local current=${COMP_WORDS[COMP_CWORD]} before=${COMP_WORDS[COMP_CWORD - 1]} options= words= block= image= at at_word=0 named
   COMPREPLY=()
   if [ "$COMP_CWORD" = 1 ]; then
-    mapfile -t COMPREPLY < <(compgen -W 'format pack repack find extract salvage check ls blocks cat diff log mkdir put rm mv setattr rmattr grow sync undo redo forget batch explain help --help --version' -- "$current")
+    mapfile -t COMPREPLY < <(compgen -W 'format pack repack find extract salvage check ls blocks cat diff log mkdir put rm mv setattr rmattr grow sync undo redo forget adopt batch explain help --help --version' -- "$current")
     return
   fi
   case $before in
@@ -129,6 +129,10 @@ _lfsed() {
       options='-b --block --older -h --help'
       words='IMAGE'
       ;;
+    adopt)
+      options='-b --block --replace --json -h --help'
+      words='IMAGE'
+      ;;
     batch)
       options='-b --block --one --keep -h --help'
       words='IMAGE FILE'
@@ -171,8 +175,8 @@ _lfsed() {
     IMAGE | OTHER | SOURCE | FLASH | FILE) mapfile -t COMPREPLY < <(compgen -f -- "$current") ;;
     DIR) mapfile -t COMPREPLY < <(compgen -d -- "$current") ;;
     PATH | FROM | TO) _lfsed_offer < <(_lfsed_paths "$image" "$block") ;;
-    FAULT) mapfile -t COMPREPLY < <(compgen -W '1 2 3 4 5 6 7 8 9 10 11 12 13 14 15 16 17 18 19 20 21 22 30 31 32 33 34 35 36 37 38 39 40 41 42 43 44 46 50 51 52 53 54 55 60 61 62 63 64 65 ImageLength BadGeometry NoValidCommit UnknownTag BadTag IncompleteEntry BadName BadSkipList NoSuperblock Version Geometry Limits OrderFault BlockRange BlockTwice MissingDirectory Orphan UnfinishedMove SuperblockElsewhere BadSize UnknownState DamagedCommit NotFound Exists NotADirectory IsADirectory NotEmpty BadPath NameTooLong FileTooLarge AttrTooLarge NoAttr IntoItself IsRoot EntryTooLarge NoSpace Memory BadCount JournalFormat JournalMismatch JournalImage NothingToUndo NothingToRedo JournalFull CannotRead CannotWrite HostEntry HostName BadHex BadLine' -- "$current") ;;
-    COMMAND) mapfile -t COMPREPLY < <(compgen -W 'format pack repack find extract salvage check ls blocks cat diff log mkdir put rm mv setattr rmattr grow sync undo redo forget batch explain' -- "$current") ;;
+    FAULT) mapfile -t COMPREPLY < <(compgen -W '1 2 3 4 5 6 7 8 9 10 11 12 13 14 15 16 17 18 19 20 21 22 30 31 32 33 34 35 36 37 38 39 40 41 42 43 44 46 50 51 52 53 54 55 56 60 61 62 63 64 65 ImageLength BadGeometry NoValidCommit UnknownTag BadTag IncompleteEntry BadName BadSkipList NoSuperblock Version Geometry Limits OrderFault BlockRange BlockTwice MissingDirectory Orphan UnfinishedMove SuperblockElsewhere BadSize UnknownState DamagedCommit NotFound Exists NotADirectory IsADirectory NotEmpty BadPath NameTooLong FileTooLarge AttrTooLarge NoAttr IntoItself IsRoot EntryTooLarge NoSpace Memory BadCount JournalFormat JournalMismatch JournalImage NothingToUndo NothingToRedo JournalFull JournalHasChanges CannotRead CannotWrite HostEntry HostName BadHex BadLine' -- "$current") ;;
+    COMMAND) mapfile -t COMPREPLY < <(compgen -W 'format pack repack find extract salvage check ls blocks cat diff log mkdir put rm mv setattr rmattr grow sync undo redo forget adopt batch explain' -- "$current") ;;
   esac
 }
 complete -o filenames -F _lfsed lfsed

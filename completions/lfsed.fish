@@ -58,9 +58,10 @@ complete -c lfsed -n __fish_use_subcommand -a sync -d 'Make an image like a fold
 complete -c lfsed -n __fish_use_subcommand -a undo -d 'Take the latest change back, byte for byte'
 complete -c lfsed -n __fish_use_subcommand -a redo -d 'Make the latest change again that was taken back'
 complete -c lfsed -n __fish_use_subcommand -a forget -d 'Keep the image alone: its changes can no longer be taken back'
+complete -c lfsed -n __fish_use_subcommand -a adopt -d 'Take over an image that a device wrote, in place'
 complete -c lfsed -n __fish_use_subcommand -a batch -d 'Carry out the steps of a script, a line each: all of them or none'
 complete -c lfsed -n __fish_use_subcommand -a explain -d 'Say what faults mean, and what to do'
-complete -c lfsed -n '__lfsed_at help 0' -a 'format pack repack find extract salvage check ls blocks cat diff log mkdir put rm mv setattr rmattr grow sync undo redo forget batch explain'
+complete -c lfsed -n '__lfsed_at help 0' -a 'format pack repack find extract salvage check ls blocks cat diff log mkdir put rm mv setattr rmattr grow sync undo redo forget adopt batch explain'
 complete -c lfsed -n '__lfsed_at format 0' -F
 complete -c lfsed -n '__fish_seen_subcommand_from format' -s b -l block -x -d 'Size of a block, a multiple of 16 from 256 to 65536 [default: 4096]'
 complete -c lfsed -n '__fish_seen_subcommand_from format' -l count -x -d 'Number of blocks, from 2 to 65536; at most 67108864 bytes in all'
@@ -219,11 +220,16 @@ complete -c lfsed -n '__lfsed_at forget 0' -F
 complete -c lfsed -n '__fish_seen_subcommand_from forget' -s b -l block -x -d 'Size of a block, a multiple of 16 from 256 to 65536, or auto [default: 4096]'
 complete -c lfsed -n '__fish_seen_subcommand_from forget' -l older -d 'Go on with the state before commits of a later disk version, which are not read'
 complete -c lfsed -n '__fish_seen_subcommand_from forget' -s h -l help -d 'Print help'
+complete -c lfsed -n '__lfsed_at adopt 0' -F
+complete -c lfsed -n '__fish_seen_subcommand_from adopt' -s b -l block -x -d 'Size of a block, a multiple of 16 from 256 to 65536, or auto [default: 4096]'
+complete -c lfsed -n '__fish_seen_subcommand_from adopt' -l replace -d 'Replace a journal that has changes, which adopt refuses else'
+complete -c lfsed -n '__fish_seen_subcommand_from adopt' -l json -d 'Print an object of JSON a line'
+complete -c lfsed -n '__fish_seen_subcommand_from adopt' -s h -l help -d 'Print help'
 complete -c lfsed -n '__lfsed_at batch 0' -F
 complete -c lfsed -n '__lfsed_at batch 1' -F
 complete -c lfsed -n '__fish_seen_subcommand_from batch' -s b -l block -x -d 'Size of a block, a multiple of 16 from 256 to 65536, or auto [default: 4096]'
 complete -c lfsed -n '__fish_seen_subcommand_from batch' -l one -d 'Make one change of all steps, which one undo takes back; undo, redo and forget are none of them'
 complete -c lfsed -n '__fish_seen_subcommand_from batch' -l keep -x -d 'Number of the latest changes that are kept, from 1 to 1000; all where it is not said'
 complete -c lfsed -n '__fish_seen_subcommand_from batch' -s h -l help -d 'Print help'
-complete -c lfsed -n '__lfsed_at explain 0' -a '1 2 3 4 5 6 7 8 9 10 11 12 13 14 15 16 17 18 19 20 21 22 30 31 32 33 34 35 36 37 38 39 40 41 42 43 44 46 50 51 52 53 54 55 60 61 62 63 64 65 ImageLength BadGeometry NoValidCommit UnknownTag BadTag IncompleteEntry BadName BadSkipList NoSuperblock Version Geometry Limits OrderFault BlockRange BlockTwice MissingDirectory Orphan UnfinishedMove SuperblockElsewhere BadSize UnknownState DamagedCommit NotFound Exists NotADirectory IsADirectory NotEmpty BadPath NameTooLong FileTooLarge AttrTooLarge NoAttr IntoItself IsRoot EntryTooLarge NoSpace Memory BadCount JournalFormat JournalMismatch JournalImage NothingToUndo NothingToRedo JournalFull CannotRead CannotWrite HostEntry HostName BadHex BadLine'
+complete -c lfsed -n '__lfsed_at explain 0' -a '1 2 3 4 5 6 7 8 9 10 11 12 13 14 15 16 17 18 19 20 21 22 30 31 32 33 34 35 36 37 38 39 40 41 42 43 44 46 50 51 52 53 54 55 56 60 61 62 63 64 65 ImageLength BadGeometry NoValidCommit UnknownTag BadTag IncompleteEntry BadName BadSkipList NoSuperblock Version Geometry Limits OrderFault BlockRange BlockTwice MissingDirectory Orphan UnfinishedMove SuperblockElsewhere BadSize UnknownState DamagedCommit NotFound Exists NotADirectory IsADirectory NotEmpty BadPath NameTooLong FileTooLarge AttrTooLarge NoAttr IntoItself IsRoot EntryTooLarge NoSpace Memory BadCount JournalFormat JournalMismatch JournalImage NothingToUndo NothingToRedo JournalFull JournalHasChanges CannotRead CannotWrite HostEntry HostName BadHex BadLine'
 complete -c lfsed -n '__fish_seen_subcommand_from explain' -s h -l help -d 'Print help'

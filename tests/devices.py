@@ -21,15 +21,15 @@ from support.texts import compared, ended_by, listed, said
 
 SIZE, COUNT, LONGER = 512, 8, 16
 
-# What is told of an image that isn't read without `--device`: the fault, and the second line. In it `{}` is the option that reads the
-# image, with `repack` before it where the command changes an image.
+# What is told of an image that isn't read without `--device`: the fault, and the second line. In it `{}` is what helps: the option, or
+# `adopt` if the command changes an image.
 UNREAD = {
-    "changed": ("10 Version", "a device has changed it with disk version 2.1, which is not read: {} reads it, --older goes on with the state before that"),
-    "states": ("10 Version", "its superblock states disk version 2.1: {} reads it"),
-    "first": ("3 NoValidCommit", "its first block states disk version 2.1: {} reads it"),
-    "second": ("3 NoValidCommit", "its second block states disk version 2.1: {} reads it"),
-    "expanded": ("19 SuperblockElsewhere", "a superblock that a device has expanded is read with {}"),
-    "tail": ("9 NoSuperblock", "a superblock that a device has expanded is read with {}"),
+    "changed": ("10 Version", "a device has changed it with disk version 2.1, which is not read: {}, --older goes on with the state before that"),
+    "states": ("10 Version", "its superblock states disk version 2.1: {}"),
+    "first": ("3 NoValidCommit", "its first block states disk version 2.1: {}"),
+    "second": ("3 NoValidCommit", "its second block states disk version 2.1: {}"),
+    "expanded": ("19 SuperblockElsewhere", "if a device has expanded its superblock, {}"),
+    "tail": ("9 NoSuperblock", "if a device has expanded its superblock, {}"),
 }
 OLDER = "lfsed: a.img: a later commit of disk version 2.1 stands in it, which is not read\n"
 
@@ -387,7 +387,7 @@ ASKED = ["check -b {size}{device} a.img", "ls -b {size}{device} a.img", "cat -b 
 CHANGING = ["put {} -b 512 a.img /more", "mkdir {} -b 512 a.img /made", "mv {} -b 512 a.img /early /moved", "rm {} -b 512 a.img /early",
             "setattr {} -b 512 a.img /early 74 01", "rmattr {} -b 512 a.img /early 74", "grow {} -b 512 a.img 9", "undo {} -b 512 a.img",
             "redo {} -b 512 a.img", "forget {} -b 512 a.img", "batch {} -b 512 a.img"]
-MAKING = ["format {} -b 512 --count 8 a.img", "pack {} -b 512 --count 8 a.img made", "log {} -b 512 a.img", "explain {} 3"]
+MAKING = ["format {} -b 512 --count 8 a.img", "pack {} -b 512 --count 8 a.img made", "log {} -b 512 a.img", "adopt {} -b 512 a.img", "explain {} 3"]
 
 
 def beside(folder, name):
@@ -515,7 +515,7 @@ def what_is_told_without_it(folder):
             is_read(folder, name, row._replace(wanted=row.without), Reader(row.image, row.size), "")
         elif isinstance(row.without, str):
             fault, second = UNREAD[row.without]
-            is_refused(folder, name, row, "", [fault], second.format("--device"))
+            is_refused(folder, name, row, "", [fault], second.format("--device reads it"))
         else:
             is_refused(folder, name, row, "", row.without, None)
 
@@ -542,15 +542,15 @@ def both_images_are_compared(folder):
         folder.be(eight({0: PLAIN}), 0)
         fault, second = UNREAD[new.without]
         ended = folder.run("diff -b 512 a.img b.img")
-        folder.check("the second isn't read", ended == (3, f"lfsed: {fault}\nlfsed: b.img: {second.format('--device')}\n", b""), ended)
+        folder.check("the second isn't read", ended == (3, f"lfsed: {fault}\nlfsed: b.img: {second.format('--device reads it')}\n", b""), ended)
         fault, second = UNREAD[old.without]
         folder.be(old.image, 0)
         beside(folder, "b.img").write_bytes(eight({0: PLAIN}))
         ended = folder.run("diff -b 512 a.img b.img")
-        folder.check("the first isn't read", ended == (3, f"lfsed: {fault}\nlfsed: a.img: {second.format('--device')}\n", b""), ended)
+        folder.check("the first isn't read", ended == (3, f"lfsed: {fault}\nlfsed: a.img: {second.format('--device reads it')}\n", b""), ended)
 
 
-def commands_that_change_an_image_name_repack(folder):
+def commands_that_change_an_image_name_adopt(folder):
     for name in "written: appended to", "written: rewritten", "written: formatted", "versions: 2.1 in commits of 2.0", "expanded: a tail alone":
         row = ROWS[name]
         fault, second = UNREAD[row.without]
@@ -560,7 +560,7 @@ def commands_that_change_an_image_name_repack(folder):
             if line.startswith("forget") and row.without != "changed":
                 continue
             ended = folder.run(line)
-            told = second.format("repack --device")
+            told = second.format("adopt takes it over")
             if not line.startswith(("undo", "redo", "forget")):
                 told = told.replace(", --older goes on with the state before that", "")
             folder.check(f"{name}: {line}", is_told(ended, [fault], told), ended)
@@ -604,6 +604,6 @@ def the_size_of_a_block_is_found(folder):
 if __name__ == "__main__":
     sys.exit(run_scenes([
         blocks_are_as_devices_write_them, what_a_device_reads, salvage_reads_as_a_device, what_is_told_without_it, the_state_before_is_read_where_that_is_asked_for,
-        both_images_are_compared, commands_that_change_an_image_name_repack, only_what_reads_takes_it, a_new_image_is_the_one_that_version_2_0_formats,
+        both_images_are_compared, commands_that_change_an_image_name_adopt, only_what_reads_takes_it, a_new_image_is_the_one_that_version_2_0_formats,
         the_size_of_a_block_is_found,
     ]))

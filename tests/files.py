@@ -11,6 +11,8 @@ import subprocess
 import sys
 import tempfile
 
+from support.later import LATER, stated, written
+from support.logs import image
 from support.refusing import Refusing
 
 HOME = pathlib.Path(__file__).resolve().parent.parent
@@ -212,6 +214,7 @@ RUNS_THAT_CALL = (
     (["check", "--device", "--offset", "700", "flash.bin"], "open lseek read write statx"),
     (["repack", "--from-block", "512", "--offset", "700", "b.img", "flash.bin"], "open lseek read write statx flock fchmod fsync rename"),
     (["find", "flash.bin"], "open read write statx"),
+    (["adopt", "device.img"], "open read write statx flock fchmod fsync rename"),
 )
 
 
@@ -224,6 +227,7 @@ def calls_that_fail(files):
     (files.folder / "steps").write_bytes(b"mkdir /made\nsetattr /old 74 01\n")
     make_source(files)
     (files.folder / "flash.bin").write_bytes(bytes(700) + files.image.read_bytes() + bytes(99))
+    (files.folder / "device.img").write_bytes(image(512, 8, {0: written(1, 512, stated(LATER, 512, 8))}))
     with tempfile.TemporaryDirectory() as folder:
         os.chmod(folder, 0o755)
         refusing = Refusing(pathlib.Path(folder))

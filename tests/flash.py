@@ -236,7 +236,7 @@ def without_device_other_superblocks_count(folder):
         is_refused(folder, "a device's change", flash, "10 Version", f"{changed}--device reads it, --older goes on with the state before that\n")
         flash = Flash(before + expanded + behind, len(before), expanded[:COUNT * SIZE])
         is_refused(folder, "several superblocks", flash, "19 SuperblockElsewhere",
-                   "lfsed: a.img: a superblock that a device has expanded is read with --device\n")
+                   "lfsed: a.img: if a device has expanded its superblock, --device reads it\n")
 
 
 def sizes_of_blocks_are_found(folder):
@@ -396,7 +396,7 @@ NOT_TAKING = [
     "put {} -b 512 a.img /more", "mkdir {} -b 512 a.img /made", "mv {} -b 512 a.img /early /moved", "rm {} -b 512 a.img /early",
     "setattr {} -b 512 a.img /early 74 01", "rmattr {} -b 512 a.img /early 74", "grow {} -b 512 a.img 9", "undo {} -b 512 a.img",
     "redo {} -b 512 a.img", "forget {} -b 512 a.img", "batch {} -b 512 a.img", "log {} -b 512 a.img", "format {} -b 512 --count 8 a.img",
-    "pack {} -b 512 --count 8 a.img made", "explain {} 3", "find {} a.img",
+    "pack {} -b 512 --count 8 a.img made", "adopt {} -b 512 a.img", "explain {} 3", "find {} a.img",
 ]
 
 

@@ -19,7 +19,7 @@ CHANGED_BY_DEVICE = (
 )
 REFUSED = "lfsed: 10 Version\n" + CHANGED_BY_DEVICE
 REFUSED_OTHER = REFUSED.replace("a.img", "b.img")
-REFUSED_MOVE = REFUSED.replace("--device", "repack --device")
+REFUSED_MOVE = REFUSED.replace("--device reads it", "adopt takes it over")
 REFUSED_CHANGE = REFUSED_MOVE.replace(", --older goes on with the state before that", "")
 SAID = "block 512, count 8, free 6, directories 1, files 1, version 2.0\n"
 
@@ -162,7 +162,7 @@ def nothing_is_said_of_others(folder):
 def a_later_image_states_its_version(folder):
     for name, (formatted, place) in FORMATTED.items():
         states = f"lfsed: 3 NoValidCommit\nlfsed: a.img: its {place} block states disk version 2.1: "
-        asked, changed = states + "--device reads it\n", states + "repack --device reads it\n"
+        asked, changed = states + "--device reads it\n", states + "adopt takes it over\n"
         folder.be(formatted, 0)
         folder.play([(f"check -b 512 a.img{older}", 0, 3, asked, "") for older in ("", " --older")])
         folder.play([("put -b 512 a.img /more", 4, 3, changed, ""), ("undo --older -b 512 a.img", 0, 3, changed, "")])

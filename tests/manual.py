@@ -22,7 +22,7 @@ INSTALLED = {
 }
 # Folders that are installed with all that is in them.
 FOLDERS = {"share/cmake/lfsed": "share/cmake/lfsed", "share/lfsed/python/lfsed": "python/lfsed", "share/doc/lfsed/docs": "docs"}
-COMMANDS = "batch blocks cat check diff explain extract find forget format grow log ls mkdir mv pack put redo repack rm rmattr salvage setattr sync undo"
+COMMANDS = "adopt batch blocks cat check diff explain extract find forget format grow log ls mkdir mv pack put redo repack rm rmattr salvage setattr sync undo"
 # The words of a command line, of which the last one is completed, and what it may become.
 COMPLETED = [
     ("lfsed ", f"--help --version {COMMANDS} help"),
@@ -62,10 +62,14 @@ COMPLETED = [
     ("lfsed ls --offset ", ""),
     ("lfsed ls --device --offset 1088k f", "fw.img"),
     ("lfsed undo --steps 3 f", "fw.img"),
-    ("lfsed explain 5", "5 50 51 52 53 54 55"),
+    ("lfsed explain 5", "5 50 51 52 53 54 55 56"),
     ("lfsed check --block = 512 f", "fw.img"),
     ("lfsed check --block = ", ""),
     ("lfsed put fw.img /x < f", "fw.img"),
+    ("lfsed a", "adopt"),
+    ("lfsed adopt -", "--block --help --json --replace -b -h"),
+    ("lfsed adopt --replace f", "fw.img"),
+    ("lfsed adopt fw.img ", ""),
     ("lfsed b", "batch blocks"),
     ("lfsed batch --", "--block --help --keep --one"),
     ("lfsed batch --keep 3 f", "fw.img"),

@@ -3,12 +3,14 @@
 
 In each life littlefs formats a flash and changes it by random calls: over several sizes of blocks and caches, with and without times, with
 thousands of writes, so that pairs move and the superblock is expanded, or until the flash is full. In half of them the power fails at last,
-at one of the writes of a call. The program reads, salvages and repacks that image, finds it in a dump, and littlefs mounts the copy. Then the program changes the copy, takes changes back and makes them again;
-littlefs mounts each image that it leaves. At last littlefs changes the copy, and the program reads that. All listings, contents, times and
-attributes are compared."""
+at one of the writes of a call. The program finds that image in a dump, reads and salvages it. It takes a copy over in place and repacks
+another, and littlefs mounts both. Of each the program changes what it made, takes changes back and makes them again; littlefs mounts each
+image that it leaves. At last littlefs changes the image, and the program reads that and takes it over once more. All listings, contents,
+times and attributes are compared."""
 import multiprocessing
 import pathlib
 import random
+import re
 import shutil
 import subprocess
 import sys
@@ -16,12 +18,13 @@ import tempfile
 
 from support.counts import Counts
 from support.folder import HOME, PROGRAM
+from support.later import DeviceReader
 from support.random_steps import Model
 from support.real import NO_POWER, TIME, Device, Refused, pattern, real_littlefs, rows_of, sha256, times_of
 
 LIVES = 40
 BLOCKS = 256, 512, 512, 1024, 4096
-ROOM = 43
+TWICE, ROOM = 15, 43
 
 
 class Life:
@@ -130,6 +133,9 @@ class Life:
         """Compares what the program reads of the image with what the device lists of it."""
         listed = self.listed()
         ended = self.run("ls", "--json", "--sha256", *options, self.name)
+        if ended[1] == TWICE:
+            self.is_used_twice(what, ended)
+            return None
         self.check(f"{what}: listed", ended[0] == 0 and not ended[3], ended)
         if ended[0]:
             return None
@@ -141,6 +147,13 @@ class Life:
             late = {path for path, time in times_of(attributes).items() if path in listed and time != listed[path][3]}
             self.check(f"{what}: the same times", not late, late)
         return rows, attributes
+
+    def is_used_twice(self, what, ended):
+        """The program refuses the device's image for a block that two things use: so it has to be by a plain reader. littlefs gives a block
+        away twice at times, where calls ended for want of room; it reads both still, and its next changes of one destroy the other."""
+        used = DeviceReader((self.folder / self.name).read_bytes(), self.block).used()
+        told = re.findall(rb"block (\d+): /\S* and /\S* use it\n", ended[3])
+        self.check(f"{what}: a block is used twice", told and all(used.count(int(number)) == 2 for number in told), ended)
 
     def listed(self):
         """What the device lists. If the power failed while the last entry of a part was moved, the device lists a name that it can't open;
@@ -163,23 +176,45 @@ class Life:
         unlike = {path for path in {*rows, *listed} if rows.get(path) != listed.get(path)}
         self.check(f"{what}: what the device lists", not unlike, [(path, rows.get(path), listed.get(path)) for path in sorted(unlike)][:3])
 
-    def repack(self):
-        """Makes an image of version 2.0 of the device's, which the device mounts; answers what it holds."""
+    def read(self):
+        """Reads the device's image as the device does, and salvages it; answers what it holds."""
         self.device.opens(self.name, self.block)
         found = self.is_read("the device's image", "--device", "-b", "auto")
-        if not found:
-            return None
-        self.salvage(found[0])
+        if found:
+            self.salvage(found[0])
+        return found
+
+    def take_over(self, name, found):
+        """Takes an image over in place: the blocks that are told change, and no others; littlefs mounts it. The second time none changes."""
+        self.name, image = name, self.folder / name
+        self.device.opens(self.name, self.block)
+        before = image.read_bytes()
+        ended = self.run("adopt", "-b", "auto", self.name)
+        self.check("taken over", ended[0] == 0, ended)
+        if ended[0]:
+            return
+        after = image.read_bytes()
+        unlike = [at for at in range(len(before) // self.block) if before[at * self.block:][:self.block] != after[at * self.block:][:self.block]]
+        self.check("taken over: the blocks that change", unlike == [int(it) for it in re.findall(rb"\d+", ended[2])], (unlike, ended))
+        self.is_mounted("taken over", found[0])
+        again = self.is_read("taken over", "-b", "auto")
+        self.check("taken over: attributes", again and again[1] == found[1])
+        ended = self.run("adopt", "-b", "auto", self.name)
+        self.check("taken over twice", ended[:3] == (0, 0, b"no block changed\n") and image.read_bytes() == after, ended)
+
+    def repack(self, found):
+        """Makes an image of version 2.0 of the device's, which the device mounts; answers whether there is one."""
+        self.device.opens(self.name, self.block)
         more = self.count + self.chance.choice([0, 8])
         ended = self.run("repack", "--device", "-b", str(self.block), "--count", str(more), "b.img", self.name)
         self.check("repacked", ended[0] == 0 or ended[1] == ROOM, ended)
         if ended[0]:
-            return None
+            return False
         self.name, self.count = "b.img", more
         self.is_mounted("repacked", found[0])
         again = self.is_read("repacked", "-b", "auto")
         self.check("repacked: attributes", again and again[1] == found[1])
-        return found
+        return True
 
     def salvage(self, rows):
         """Compares what is saved of the device's image with what it holds. What no path leads to is saved besides."""
@@ -305,13 +340,13 @@ class Life:
             self.is_mounted("synced", {path: ("d", 0, "") if held is None else ("f", len(held), sha256(held)) for path, held in tree.items()})
 
     def go_on(self):
-        """Has the device change the image that the program left, and the program read that."""
+        """Has the device change the image that the program left, and the program read that; answers what it holds."""
         self.device.opens(self.name, self.block)
         listed = self.device.tree()
         self.paths = {"/": None} | {path: None if row[0] == "d" else b"" for path, row in listed.items()}
         self.live(30)
         self.device("save")
-        self.is_read("the device goes on", "--device", "-b", "auto")
+        return self.is_read("the device goes on", "--device", "-b", "auto")
 
     def whole(self):
         """The whole life."""
@@ -319,11 +354,27 @@ class Life:
         if self.chance.random() < 0.5:
             self.lose_power()
         self.in_a_dump()
-        found = self.repack()
-        if found:
+        found = self.read()
+        if not found:
+            return
+        first = self.name
+        shutil.copy(self.folder / first, self.folder / "taken.img")
+        self.take_over("taken.img", found)
+        self.edit(found)
+        self.take_over_again()
+        self.name = first
+        if self.repack(found):
             model = self.edit(found)
             self.grow_and_sync(model)
             self.go_on()
+
+    def take_over_again(self):
+        """Has the device change the image that was taken over and edited, and the program take over a copy of that: the history of the edits
+        isn't that of the new image, which has another name."""
+        found = self.go_on()
+        if found:
+            shutil.copy(self.folder / self.name, self.folder / "again.img")
+            self.take_over("again.img", found)
 
 
 def fronts(path):

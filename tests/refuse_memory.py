@@ -4,6 +4,7 @@
 import concurrent.futures
 import contextlib
 import io
+import lzma
 import os
 import pathlib
 import shutil
@@ -318,6 +319,20 @@ def device_rows(runs):
             runs.row(words, state)
 
 
+def adopting_rows(runs):
+    """Images that devices wrote, of which nothing is told but the blocks that change."""
+    runs.size = 256
+    for name in "expanded", "orphan":
+        held = lzma.decompress((HOME / f"tests/images/unfinished/{name}.img.xz").read_bytes())
+        for words in ["adopt", "a.img"], ["adopt", "--json", "a.img"]:
+            taken = runs.row(words, (held, None))
+        runs.row(["adopt", "a.img"], taken)
+    changed = runs.row(["put", "a.img", "/new"], taken, bytes(3))
+    runs.row(["adopt", "a.img"], (held, changed[1]))
+    runs.row(["adopt", "--replace", "a.img"], (held, changed[1]))
+    runs.size = 512
+
+
 def repacking_rows(runs):
     """Images that are made of others: in the place of nothing, of another and of their own, of fewer blocks and other sizes of them, with
     limits, of images that aren't read, and where there is no room."""
@@ -397,7 +412,7 @@ def tried(group):
 
 
 GROUPS = [
-    history_rows, script_rows, tree_rows, repacking_rows, device_rows, flash_rows, rows, directory_rows, small_block_rows, folder_rows, comparing_rows,
+    history_rows, script_rows, tree_rows, repacking_rows, adopting_rows, device_rows, flash_rows, rows, directory_rows, small_block_rows, folder_rows, comparing_rows,
     told_rows,
     growing_rows, salvage_rows,
 ]

@@ -234,7 +234,7 @@ def versions_are_told(folder):
     states = "lfsed: a.img: its superblock states disk version 2.1: "
     folder.be(image(512, 8, {0: log(1, superblock(512, 8)[:1] + version(0x2_0001))}), 0)
     is_refused(folder, "check -b 512 a.img", 0, "10 Version", states + "--device reads it\n")
-    is_refused(folder, "mkdir -b 512 a.img /d", 0, "10 Version", states + "repack --device reads it\n")
+    is_refused(folder, "mkdir -b 512 a.img /d", 0, "10 Version", states + "adopt takes it over\n")
     folder.be(image(512, 8, {0: log(1, superblock(512, 8)[:1] + version(0x3_0002))}), 0)
     is_refused(folder, "ls -b 512 a.img", 0, "10 Version", "lfsed: a.img: its superblock states disk version 3.2\n")
 

@@ -56,10 +56,14 @@ class Image:
             raise ValueError("an image within a file is only read: repack makes a file of it alone, and that is changed")
         return run(command, options(block=self.block, older=self.older, **more), [self.path, *words], given)
 
-    def _change(self, command: str, *words: Word, given: bytes = b"", **more: Union[None, bool, Word]) -> None:
-        """Changes the image by a command."""
+    def _must_be_latest(self) -> None:
+        """Refuses to change an older state."""
         if self.older:
             raise ValueError("an older state is only read, since a change would drop what the device wrote: repack makes an image of it")
+
+    def _change(self, command: str, *words: Word, given: bytes = b"", **more: Union[None, bool, Word]) -> None:
+        """Changes the image by a command."""
+        self._must_be_latest()
         self._past(command, *words, given=given, keep=self.keep, **more)
 
     def check(self) -> Summary:
@@ -165,6 +169,17 @@ class Image:
     def forget(self) -> None:
         """Keeps the image alone: its changes can no longer be taken back."""
         self._past("forget")
+
+    def adopt(self, *, replace: bool = False) -> List[int]:
+        """Takes over an image that a device wrote, in place, and answers the numbers of the blocks that changed. Where blocks change, a
+        journal that has changes is replaced with `replace` alone, and else refused.
+
+        >>> image = format("f.img", block=512, count=16)
+        >>> image.adopt()
+        []
+        """
+        self._must_be_latest()
+        return _texts.changed(self._past("adopt", replace=replace))
 
     def log(self) -> List[Change]:
         """The changes that the journal keeps, and what each of them changed.

@@ -65,6 +65,11 @@ def changes(printed: bytes) -> List[Change]:
     return found
 
 
+def changed(printed: bytes) -> List[int]:
+    """The numbers of blocks that `adopt` prints."""
+    return [said["changed"] for said in objects(printed)]
+
+
 def summary(printed: bytes) -> Summary:
     """What `check` prints."""
     said = objects(printed)[0]

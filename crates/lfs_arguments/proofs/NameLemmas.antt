@@ -14,7 +14,7 @@ abbrev is_operation : Text → Bool
 is_operation name =
     bytes_eq (codes "batch") name || (bytes_eq (codes "format") name || (bytes_eq (codes "pack") name || (bytes_eq (codes "repack") name
     || (bytes_eq (codes "extract") name || (bytes_eq (codes "salvage") name || (bytes_eq (codes "undo") name
-    || (bytes_eq (codes "redo") name || bytes_eq (codes "forget") name)))))))
+    || (bytes_eq (codes "redo") name || (bytes_eq (codes "forget") name || bytes_eq (codes "adopt") name))))))))
 
 abbrev is_known : Text → Bool
 is_known name = is_operation name || (is_question name || is_other name)
@@ -57,12 +57,12 @@ pub other_named : (name : Text) (rows : List Row) → NamesCommand (Some (name, 
     → name ≢ codes "pack" → name ≢ codes "repack" → is_other name ≡ true
 other_named name rows names past format pack repack =
     let operation : is_operation name ≡ false =
-    none_by _ _ (no_word (codes "batch") name past.3) (none_by _ _ (no_word (codes "format") name format)
+    none_by _ _ (no_word (codes "batch") name past.4) (none_by _ _ (no_word (codes "format") name format)
     (none_by _ _ (no_word (codes "pack") name pack) (none_by _ _ (no_word (codes "repack") name repack)
-    (none_by _ _ (no_word (codes "extract") name past.4.0) (none_by _ _ (no_word (codes "salvage") name past.4.1)
+    (none_by _ _ (no_word (codes "extract") name past.5.0) (none_by _ _ (no_word (codes "salvage") name past.5.1)
     (none_by _ _ (no_word (codes "undo") name past.0) (none_by _ _ (no_word (codes "redo") name past.1)
-    (no_word (codes "forget") name past.2)))))))) in
-    other_by (is_question name) (is_other name) (other_by (is_operation name) (is_question name || is_other name) (known name rows names) operation) past.4.2
+    (none_by _ _ (no_word (codes "forget") name past.2) (no_word (codes "adopt") name past.3))))))))) in
+    other_by (is_question name) (is_other name) (other_by (is_operation name) (is_question name || is_other name) (known name rows names) operation) past.5.2
 
 first_by : (a b : Bool) → a || b ≡ true → b ≡ false → a ≡ true
 first_by true b is none = refl

@@ -217,6 +217,8 @@ IsOperation (Extract dir path view) name rows block other =
 IsOperation (Salvage dir view) name rows block other = (name ≡ codes "salvage") × HasText rows (codes "dir") dir.now × IsView view rows
 IsOperation (Ask query said view) name rows block other = IsQuery query name rows other × (said ≡ form_said rows) × IsView view rows
 IsOperation operation.Forget name rows block other = name ≡ codes "forget"
+IsOperation (operation.Adopt said replaces) name rows block other =
+    (name ≡ codes "adopt") × (said ≡ form_said rows) × (replaces ≡ is_flagged (codes "replace") rows)
 IsOperation (Change (Do command kept)) name rows block other =
     (is_of_tree name rows ≡ false) × IsCommand command name rows block × IsKeepSaid kept rows
 IsOperation (Tree change kept) name rows block other = (is_of_tree name rows ≡ true) × IsTreeChange change name rows × IsKeepSaid kept rows
@@ -286,10 +288,11 @@ IsNoTreeCommand name = (name ≢ codes "mkdir") × (name ≢ codes "put") × (na
 abbrev pub IsNoViewing : Text → Type 0
 IsNoViewing name = (name ≢ codes "extract") × (name ≢ codes "salvage") × (is_question name ≡ false)
 
--- nor of one that has to do with the changes of the past, or that takes a script
+-- nor of one that has to do with the changes of the past, that takes an image over, or that takes a script
 abbrev pub IsNoPast : Text → Type 0
 IsNoPast name =
-    (name ≢ codes "undo") × (name ≢ codes "redo") × (name ≢ codes "forget") × (name ≢ codes "batch") × IsNoViewing name
+    (name ≢ codes "undo") × (name ≢ codes "redo") × (name ≢ codes "forget") × (name ≢ codes "adopt") × (name ≢ codes "batch")
+    × IsNoViewing name
 
 -- `auto` is said for the block size by an option, and this file is named by an argument
 abbrev pub SaysAuto : Text → Text → Option (Text × List Row) → Text → Type 0

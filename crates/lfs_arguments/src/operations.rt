@@ -274,7 +274,7 @@ fn viewing_operation_of<'a>(
     }
 }
 
-/// The same, or what they ask to be done with the changes of the past, or by a script.
+/// The same, or what they ask to be done with the changes of the past, with an image that a device wrote, or by a script.
 fn past_operation_of<'a>(
     name: &str,
     options: &ArgMatches<'a>,
@@ -295,6 +295,10 @@ fn past_operation_of<'a>(
             steps: number(options, "steps")?,
         })),
         "forget" => Ok(Operation::Forget),
+        "adopt" => Ok(Operation::Adopt {
+            form: form_of(options),
+            replaces: said(options, "replace"),
+        }),
         "batch" => Ok(Operation::Batch {
             file: options.get_str("script"),
             keep: keep_of(options),

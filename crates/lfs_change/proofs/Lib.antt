@@ -4,3 +4,4 @@ pub mod LawLemmas
 pub mod GrowthLemmas
 pub mod TakenBackLemmas
 pub mod TogetherLemmas
+pub mod AdoptingLemmas

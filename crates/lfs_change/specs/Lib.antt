@@ -3,3 +3,4 @@ pub mod Change
 pub mod Forgetting
 pub mod Laws
 pub mod TogetherLaws
+pub mod Adopting

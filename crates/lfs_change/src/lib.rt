@@ -1,6 +1,7 @@
 //! Steps on bytes that change an image: steps on the history that an image and its journal denote.
 #![tactic(auto)]
 
+mod adopting;
 mod beside;
 mod changing;
 mod forgetting;
@@ -10,6 +11,7 @@ mod laws;
 mod opening;
 mod outcomes;
 
+pub use adopting::{Adoption, adopted};
 pub use changing::changed;
 pub use forgetting::forgotten;
 pub use laws::{

@@ -1,6 +1,5 @@
 -- Why the file that a name leads to isn't at hand.
 use Rattle.std.proofs.Common.{ℕ, List, Option, Some, None, refl, ◌∙◌}
-use Rattle.lfs_host.specs.declared.read_fault.ReadFault.TheVariants as reading
 use Rattle.lfs_host.specs.Files.{Files, IsTarget}
 use Rattle.lfs_host.specs.Scene.{Scene}
 use Rattle.lfs_exchange.specs.Handing.{HasRefusedTarget}

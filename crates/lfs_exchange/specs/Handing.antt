@@ -8,7 +8,7 @@ use Rattle.lfs_request.specs.declared.fault.Fault.{Fault}
 use Rattle.lfs_request.specs.declared.fault.Fault.TheVariants.{Refused, CannotRead, CannotWrite, Other}
 use Rattle.lfs_request.specs.declared.other_fault.OtherFault.TheVariants as other
 use Rattle.lfs_exchange.specs.declared.step_kind.StepKind.{StepKind}
-use Rattle.lfs_exchange.specs.declared.step_kind.StepKind.TheVariants.{Makes, Asks, Recounts, Changes}
+use Rattle.lfs_exchange.specs.declared.step_kind.StepKind.TheVariants.{Makes, Asks, Recounts, Changes, Adopts}
 use Rattle.lfs_command.specs.declared.command.Command.TheVariants.{Put}
 use Rattle.lfs_history.specs.declared.moves.Move.{Move}
 use Rattle.lfs_history.specs.declared.moves.Move.TheVariants.{Do}
@@ -42,6 +42,7 @@ HandsImage _ place files name image = ReadsFrom files name place most_image imag
 abbrev pub HandsJournal : StepKind → Option Files → List ℕ → List ℕ → Type 0
 HandsJournal Changes files name journal = FindsFile files (journal_name name) most_journal journal
 HandsJournal Recounts files name journal = FindsFile files (journal_name name) most_journal journal
+HandsJournal Adopts files name journal = FindsFile files (journal_name name) most_journal journal
 HandsJournal _ files name journal = journal ≡ []
 
 -- what is read of a source of contents: a file of the host, or standard input

@@ -2,8 +2,8 @@
 use Rattle.std.specs.Prelude.{ℕ, ◌≡◌, ◌⊎◌, ⊤, List, Option}
 use Rattle.std.specs.Io.KnownBytes.{Appends}
 use Rattle.lfs_exchange.specs.declared.step_kind.StepKind.{StepKind}
-use Rattle.lfs_exchange.specs.declared.step_kind.StepKind.TheVariants.{Asks, Recounts}
-use Rattle.lfs_host.specs.Scene.{Scene}
+use Rattle.lfs_exchange.specs.declared.step_kind.StepKind.TheVariants.{Asks, Recounts, Adopts}
+use Rattle.lfs_host.specs.Scene.{KeepsAll, KeepsText, Scene}
 use Rattle.lfs_host.specs.Send.{SendsBeginning}
 
 -- a beginning of the text has gone out, or all of it
@@ -19,3 +19,10 @@ abbrev pub HandsOn : StepKind → Scene → Type 0
 HandsOn Asks scene = IsFlushed scene
 HandsOn Recounts scene = IsFlushed scene
 HandsOn _ scene = ⊤
+
+-- so it is before a file changes of an image that is taken over: there is a host between, of which all is known that was known at first, and
+-- which has handed on all that was printed; after it nothing is printed
+abbrev pub HandsOnFirst : {H : Type 0} → (H → Scene) → StepKind → H → H → Type 0
+HandsOnFirst {H} known Adopts old new =
+    (between : H) × KeepsAll (known old) (known between) × IsFlushed (known between) × KeepsText (known between) (known new)
+HandsOnFirst known _ old new = ⊤

@@ -76,11 +76,9 @@ fn aimed<H: Host>(alloc: Global, host: &mut H, kind: StepKind, name: &str) -> Re
     };
     match kind {
         StepKind::Asks | StepKind::Recounts => {}
-        StepKind::Makes | StepKind::Changes | StepKind::Forgets => lock(
-            host,
-            kind,
-            target.as_str(),
-        )?,
+        StepKind::Makes | StepKind::Changes | StepKind::Forgets | StepKind::Adopts => {
+            lock(host, kind, target.as_str())?
+        }
     }
     Ok(target)
 }
@@ -105,9 +103,11 @@ fn must_be_there(kind: StepKind) -> Result<(), Fault>
 {
     match kind {
         StepKind::Makes => Ok(()),
-        StepKind::Asks | StepKind::Recounts | StepKind::Changes | StepKind::Forgets => {
-            Err(Fault::CannotRead)
-        }
+        StepKind::Asks
+        | StepKind::Recounts
+        | StepKind::Changes
+        | StepKind::Forgets
+        | StepKind::Adopts => Err(Fault::CannotRead),
     }
 }
 
@@ -157,7 +157,9 @@ fn journal_of<H: Host>(
     ensures kept { KeepsAll (H.known host.old) (H.known host.new) }
 {
     match kind {
-        StepKind::Changes | StepKind::Recounts => find_journal(alloc, host, name),
+        StepKind::Changes | StepKind::Recounts | StepKind::Adopts => {
+            find_journal(alloc, host, name)
+        }
         _ => Ok(Vec::new(alloc)),
     }
 }

@@ -19,6 +19,8 @@ pub enum StepKind {
     Changes,
     /// It changes its journal alone.
     Forgets,
+    /// It takes it over as a device left it, and says which blocks change.
+    Adopts,
 }
 
 /// The kind of what is asked.

@@ -5,7 +5,7 @@ ghost use Rattle.lfs_request.specs.declared.fault.Fault.TheVariants.{CannotWrite
 ghost use Rattle.lfs_host.specs.Files.{OnKnown};
 ghost use Rattle.lfs_host.specs.Scene.{HasClaimed, HasRefused, KeepsText, WasRefused};
 ghost use Rattle.lfs_exchange.specs.Handing.{IsClaimed, IsUnwritten};
-ghost use Rattle.lfs_exchange.specs.Printing.{HandsOn};
+ghost use Rattle.lfs_exchange.specs.Printing.{HandsOn, HandsOnFirst};
 ghost use Rattle.lfs_exchange.specs.Storing.{HasNew, HasPlaced, HasPlacedJournal, IsNames, LeavesBoth, LeavesFiles, LeavesJournal, SparesBoth, SparesEither, SparesFiles, SparesJournal};
 
 use crate::names::{Names, names_of};
@@ -15,8 +15,7 @@ use lfs_host::Host;
 use lfs_request::{Fault, KeptJournal, Outcome};
 use std::alloc::Global;
 
-/// Writes what a step leaves; the answer to a question is handed on. What memory it takes is taken before a file is
-/// changed.
+/// Writes what a step leaves; an answer is handed on first. What memory it takes is taken before a file is changed.
 pub fn stored<H: Host>(
     alloc: Global,
     host: &mut H,
@@ -29,6 +28,7 @@ pub fn stored<H: Host>(
         (λ _. LeavesFiles kind (H.known host.old).files (H.known host.new).files name.now outcome.now)
         (λ fault. SparesFiles fault kind (H.known host.new).has_refused_place (H.known host.old).files (H.known host.new).files name.now outcome.now) }
     ensures flushed { OnOk result (HandsOn kind (H.known host.new)) }
+    ensures first { OnOk result (HandsOnFirst H.known kind host.old host.new) }
     ensures refused { IfErr result (IsUnwritten (H.known host.new)) }
     ensures kept { KeepsText (H.known host.old) (H.known host.new) }
 {
@@ -40,6 +40,11 @@ pub fn stored<H: Host>(
         }
         StepKind::Makes | StepKind::Changes => {
             let names = names_of(alloc, name)?;
+            put_both(host, name, &names, outcome)
+        }
+        StepKind::Adopts => {
+            let names = names_of(alloc, name)?;
+            flush(host)?;
             put_both(host, name, &names, outcome)
         }
     }

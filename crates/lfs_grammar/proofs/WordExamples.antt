@@ -80,6 +80,26 @@ undoing_says : (number_at (codes "steps") undoing ≡ Some (Some (codes "3")))
 unfolding clap_on_literals
 undoing_says = (refl, refl)
 
+-- lfsed adopt --replace a.img, and without it
+abbrev adopting : List Text
+adopting = codes "lfsed" ∷ codes "adopt" ∷ codes "--replace" ∷ codes "a.img" ∷ []
+
+abbrev adopting_kept : List Text
+adopting_kept = codes "lfsed" ∷ codes "adopt" ∷ codes "-b" ∷ codes "512" ∷ codes "--json" ∷ codes "a.img" ∷ []
+
+adopting_is_taken : IsTaken adopting × IsTaken adopting_kept
+unfolding clap_on_literals
+adopting_is_taken = (refl, refl)
+
+adopting_says : (text_at (codes "image") adopting ≡ Some (Some (codes "a.img")))
+    × (text_at (codes "replace") adopting ≡ Some (Some (codes "true")))
+    × (text_at (codes "json") adopting ≡ Some (Some (codes "false")))
+    × (text_at (codes "replace") adopting_kept ≡ Some (Some (codes "false")))
+    × (text_at (codes "json") adopting_kept ≡ Some (Some (codes "true")))
+    × (number_at (codes "block") adopting_kept ≡ Some (Some (codes "512")))
+unfolding clap_on_literals
+adopting_says = (refl, refl, refl, refl, refl, refl)
+
 -- lfsed diff a.img b.img
 abbrev comparing : List Text
 comparing = codes "lfsed" ∷ codes "diff" ∷ codes "a.img" ∷ codes "b.img" ∷ []
@@ -296,6 +316,15 @@ none_kept = refl
 nothing_to_keep : fault_of grammar (codes "lfsed" ∷ codes "check" ∷ codes "--keep" ∷ codes "1" ∷ codes "a.img" ∷ []) ≡ UnknownArgument ∷ []
 unfolding clap_on_literals
 nothing_to_keep = refl
+
+nothing_to_keep_where_all_is_replaced : fault_of grammar
+    (codes "lfsed" ∷ codes "adopt" ∷ codes "--keep" ∷ codes "1" ∷ codes "a.img" ∷ []) ≡ UnknownArgument ∷ []
+unfolding clap_on_literals
+nothing_to_keep_where_all_is_replaced = refl
+
+nothing_older_to_adopt : fault_of grammar (codes "lfsed" ∷ codes "adopt" ∷ codes "--older" ∷ codes "a.img" ∷ []) ≡ UnknownArgument ∷ []
+unfolding clap_on_literals
+nothing_older_to_adopt = refl
 
 nothing_of_a_device : fault_of grammar (codes "lfsed" ∷ codes "log" ∷ codes "--device" ∷ codes "a.img" ∷ []) ≡ UnknownArgument ∷ []
 unfolding clap_on_literals

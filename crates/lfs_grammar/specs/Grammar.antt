@@ -7,7 +7,6 @@ use Rattle.clap.specs.Walk.{is_empty, reading_by}
 use Rattle.clap.specs.Words.{App, Row, Rule, Shape, Text, fault_of, first_of, new_app, new_rule, one_of, read_as, subcommand_of}
 use Rattle.clap.specs.Words.{subcommand_rows_of, with_rule, with_subcommand}
 use Rattle.clap.specs.declared.parser.matches.ArgMatches.{ArgMatches}
-use Rattle.clap.specs.declared.builder.range.ValueRange.{ValueRange}
 use Rattle.clap.specs.declared.builder.action.ArgAction.TheVariants.{SetTrue}
 use Rattle.clap.specs.declared.builder.value_parser.ValueParser.TheVariants as vp
 use Rattle.clap.specs.declared.builder.value_parser.ValueParser.TheVariants.{Signed}
@@ -99,6 +98,10 @@ script = record (new_rule (codes "script")) { value_names = 1 }
 abbrev pub is_new : Rule
 is_new = flag (codes "new")
 
+-- a journal that has changes is replaced
+abbrev pub replace : Rule
+replace = flag (codes "replace")
+
 -- it is printed how many blocks each path takes
 abbrev pub sum : Rule
 sum = flag (codes "sum")
@@ -176,6 +179,7 @@ rule_at argument.NameMaxOrSource = name_max_or_source
 rule_at argument.FileMaxOrSource = file_max_or_source
 rule_at argument.AttrMaxOrSource = attr_max_or_source
 rule_at argument.New = is_new
+rule_at argument.Replace = replace
 rule_at argument.Sum = sum
 rule_at argument.One = one
 rule_at argument.Quiet = quiet
@@ -280,6 +284,12 @@ asking name rules = reading name (rules ++ device ∷ offset ∷ [])
 abbrev pub changing : Text → List Rule → Shape
 changing name rules = (command name (block ∷ word (codes "image") ∷ rules ++ keep ∷ [])).top
 
+-- the command that takes over an image that a device wrote: it takes the block size, the image's file name, whether a journal that has changes
+-- is replaced, and whether the answer is printed as JSON; what it writes begins a new history, so it takes neither how much of the past is
+-- kept nor an older state
+abbrev pub adopt : Shape
+adopt = (command (codes "adopt") (block ∷ word (codes "image") ∷ replace ∷ json ∷ [])).top
+
 -- it has one of these names
 abbrev pub is_change : Text → Bool
 is_change name =
@@ -317,6 +327,7 @@ program_commands =
     ∷ reading (codes "undo") (steps ∷ [])
     ∷ reading (codes "redo") (steps ∷ [])
     ∷ reading (codes "forget") []
+    ∷ adopt
     ∷ changing (codes "batch") (script ∷ one ∷ [])
     ∷ (command (codes "explain") (faults ∷ [])).top
     ∷ []

@@ -22,7 +22,8 @@ names_limit_option word =
 
 -- an option of the changes of the past, by its long name
 abbrev pub names_past_option : Text → Bool
-names_past_option word = begins_with word (codes "--keep") || begins_with word (codes "--steps")
+names_past_option word =
+    begins_with word (codes "--keep") || begins_with word (codes "--steps") || begins_with word (codes "--replace")
 
 -- an option of a change of a whole tree, by its long name
 abbrev pub names_tree_option : Text → Bool

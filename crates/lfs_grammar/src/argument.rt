@@ -39,6 +39,8 @@ pub(crate) enum Argument {
     AttrMaxOrSource,
     /// That no file is replaced.
     New,
+    /// That a journal that has changes is replaced.
+    Replace,
     /// That it is printed how many blocks each path takes.
     Sum,
     /// That the steps of a script are one change.
@@ -237,6 +239,13 @@ static NEW: ArgumentRow = ArgumentRow {
     id: "new",
     form: Form::Flag,
     help: "Refuse to replace a file that is there",
+};
+
+/// That a journal that has changes is replaced.
+static REPLACE: ArgumentRow = ArgumentRow {
+    id: "replace",
+    form: Form::Flag,
+    help: "Replace a journal that has changes, which adopt refuses else",
 };
 
 /// That it is printed how many blocks each path takes.
@@ -482,6 +491,7 @@ fn row_of(argument: Argument) -> &'static ArgumentRow
         Argument::FileMaxOrSource => &FILE_MAX_OR_SOURCE,
         Argument::AttrMaxOrSource => &ATTR_MAX_OR_SOURCE,
         Argument::New => &NEW,
+        Argument::Replace => &REPLACE,
         Argument::Sum => &SUM,
         Argument::One => &ONE,
         Argument::Quiet => &QUIET,

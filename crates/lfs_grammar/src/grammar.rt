@@ -43,7 +43,7 @@ pub const REPACK_USAGE: &str = "lfsed repack [OPTIONS] <IMAGE> <SOURCE>";
 pub const GROW_USAGE: &str = "lfsed grow [OPTIONS] <IMAGE> <COUNT|--size <BYTES>>";
 
 /// The program's commands, in the order of its help. Each but the last takes the block size and the image's file name.
-static COMMANDS: [CommandRow; 25] = [
+static COMMANDS: [CommandRow; 26] = [
     CommandRow {
         name: "format",
         about: "Write a new image, in place of a file of this name",
@@ -336,6 +336,17 @@ static COMMANDS: [CommandRow; 25] = [
         about: "Keep the image alone: its changes can no longer be taken back",
         usage: None,
         arguments: &[Argument::Block, Argument::Image, Argument::Older],
+    },
+    CommandRow {
+        name: "adopt",
+        about: "Take over an image that a device wrote, in place",
+        usage: None,
+        arguments: &[
+            Argument::Block,
+            Argument::Image,
+            Argument::Replace,
+            Argument::Json,
+        ],
     },
     CommandRow {
         name: "batch",

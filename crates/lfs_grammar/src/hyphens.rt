@@ -64,7 +64,7 @@ fn names_tree_option(word: &str) -> bool
 fn names_past_option(word: &str) -> bool
     ensures { result ≡ names_past_option word.now }
 {
-    word.starts_with("--keep") || word.starts_with("--steps")
+    word.starts_with("--keep") || word.starts_with("--steps") || word.starts_with("--replace")
 }
 
 /// Whether a word is an option of an image or a file that is there, by its long name.

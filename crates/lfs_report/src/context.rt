@@ -17,6 +17,8 @@ pub struct Context {
     pub place: Option<String>,
     /// Why an image doesn't mount of which all is saved all the same.
     pub unmounted: Option<MountFault>,
+    /// Whether the image is refused for what a device left unfinished: read as a device does, it mounts.
+    pub mounts_by_device: bool,
     /// What is told of what is saved of an image, a text a line.
     pub lines: Vec<String>,
 }
@@ -33,6 +35,7 @@ impl Context {
             text: Vec::new(alloc),
             place: None,
             unmounted: None,
+            mounts_by_device: false,
             lines: Vec::new(alloc),
         }
     }

@@ -74,6 +74,9 @@ fn report_of<H: Host>(host: &mut H, request: &Request<'_>, stop: &Stop, context:
         }
         (Some(statement), _) => report_statement(host, request, image, statement, context),
     }
+    if context.mounts_by_device {
+        report_hint(host, request, image);
+    }
     report_lines(host, image, &context.lines);
     status
 }
@@ -97,6 +100,15 @@ fn report_unmounted<H: Host>(host: &mut H, image: &str, fault: Option<MountFault
             of: image,
             text: format_args!("doesn't mount ({number} {fault}); nothing is lost"),
         });
+    }
+}
+
+/// Tells what helps with the image of this name, which a device left unfinished.
+fn report_hint<H: Host>(host: &mut H, request: &Request<'_>, image: &str)
+    ensures kept { H.known host.new ≡ H.known host.old }
+{
+    if let Some(hint) = hint_of(request) {
+        report_words(host, image, hint);
     }
 }
 

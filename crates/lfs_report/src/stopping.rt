@@ -11,9 +11,11 @@ use crate::stop::Stop;
 use crate::superblock::superblock_statement;
 use lfs_block::{Blocks, Image, MountFault};
 use lfs_command::Refusal;
+use lfs_fs::mount;
 use lfs_history::{Move, StepFault};
 use lfs_journal::Journal;
 use lfs_request::{Fault, KeptJournal, Operation, Outcome, Place, Request};
+use lfs_settle::read_by_device;
 use std::alloc::Global;
 
 /// Why bytes were refused as an image of blocks of `size` bytes, with what they state.
@@ -117,8 +119,37 @@ fn statement_of_bytes(
 ) -> Option<Statement> {
     let seen = Sight::of(size, &bytes);
     match Image::new(bytes, size) {
-        Ok(image) => statement_of_mount(alloc, fault, &image, seen, context),
+        Ok(image) => {
+            let statement = statement_of_mount(alloc, fault, &image, seen, context);
+            note_device(alloc, size, fault, image, context);
+            statement
+        }
         Err(_) => None,
+    }
+}
+
+/// Whether an image may be refused so for what a device left unfinished.
+fn may_be_unfinished(fault: MountFault) -> bool {
+    matches!(
+        fault,
+        MountFault::BlockTwice
+            | MountFault::MissingDirectory
+            | MountFault::Orphan
+            | MountFault::UnfinishedMove
+    )
+}
+
+/// Notes whether an image mounts that is refused for what a device may have left unfinished, if it is read as a device does. Takes memory,
+/// and notes nothing if it is refused.
+fn note_device(alloc: Global, size: u32, fault: MountFault, image: Image, context: &mut Context) {
+    if context.by_device || !may_be_unfinished(fault) {
+        return;
+    }
+    let Ok(bytes) = read_by_device(alloc, size, image.into_bytes()) else {
+        return;
+    };
+    if let Ok(image) = Image::new(bytes, size) {
+        context.mounts_by_device = mount(alloc, &image).is_ok();
     }
 }
 

@@ -1,4 +1,4 @@
-//! What an image states of itself, as it is told, with the words by which it is read as a device does.
+//! What an image states of itself, as it is told, and what helps with an image that a device wrote.
 
 ghost use Rattle.std.specs.Prelude.{◌≡◌};
 
@@ -69,7 +69,7 @@ pub(crate) fn report_unread<H: Host>(
     report_stated_version(host, image, hint, front, stated.version);
 }
 
-/// Tells a disk version that an image states, and by which words it is read.
+/// Tells a disk version that an image states, and what helps.
 fn report_stated_version<'a, H: Host>(
     host: &mut H,
     image: &str,
@@ -88,7 +88,6 @@ fn report_stated_version<'a, H: Host>(
                 Piece::Version(version),
                 Piece::Text(": "),
                 Piece::Text(hint),
-                Piece::Text(" reads it"),
             ],
         ),
         None => report_with_version(host, image, front, version, ""),
@@ -98,7 +97,7 @@ fn report_stated_version<'a, H: Host>(
 /// What is told of the state before a later commit, where the command that is asked for may take it.
 const OLDER: &str = "--older goes on with the state before that";
 
-/// Tells that a device has changed the image of this name, for which it is refused; by which words it is read, and whether the command may
+/// Tells that a device has changed the image of this name, for which it is refused; what helps, and whether the command may
 /// take the state before that (`takes_older`).
 pub(crate) fn report_changed<H: Host>(
     host: &mut H,
@@ -109,9 +108,9 @@ pub(crate) fn report_changed<H: Host>(
 )
     ensures kept { H.known host.new ≡ H.known host.old }
 {
-    let (colon, hint, reads) = match hint_at(version, hint) {
-        Some(hint) => (": ", hint, " reads it"),
-        None => ("", "", ""),
+    let (colon, hint) = match hint_at(version, hint) {
+        Some(hint) => (": ", hint),
+        None => ("", ""),
     };
     let (stop, older) = match (takes_older, hint.is_empty()) {
         (false, _) => ("", ""),
@@ -127,14 +126,13 @@ pub(crate) fn report_changed<H: Host>(
             Piece::Text(", which is not read"),
             Piece::Text(colon),
             Piece::Text(hint),
-            Piece::Text(reads),
             Piece::Text(stop),
             Piece::Text(older),
         ],
     );
 }
 
-/// Tells by which words an image is read whose superblock a device has expanded, where there are any.
+/// Tells what helps with an image whose superblock a device has expanded, if anything does.
 pub(crate) fn report_expanded<H: Host>(host: &mut H, image: &str, hint: Option<&'static str>)
     ensures kept { H.known host.new ≡ H.known host.old }
 {
@@ -145,7 +143,7 @@ pub(crate) fn report_expanded<H: Host>(host: &mut H, image: &str, hint: Option<&
         host,
         image,
         &[
-            Piece::Text("a superblock that a device has expanded is read with "),
+            Piece::Text("if a device has expanded its superblock, "),
             Piece::Text(hint),
         ],
     );

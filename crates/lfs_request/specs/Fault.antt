@@ -11,7 +11,7 @@ use Rattle.lfs_history.specs.declared.step_fault.StepFault.{StepFault}
 use Rattle.lfs_history.specs.declared.step_fault.StepFault.TheVariants.{Refused as Refused_step, RefusedAt}
 use Rattle.lfs_history.specs.Faults.{step_fault_number}
 use Rattle.lfs_request.specs.declared.fault.Fault.{Fault}
-use Rattle.lfs_request.specs.declared.fault.Fault.TheVariants.{Image, Mount, DamagedCommit, Refused, Step, JournalFormat, JournalMismatch, JournalImage, CannotRead, CannotWrite, HostEntry, HostName, BadHex, BadLine, Other, Differ}
+use Rattle.lfs_request.specs.declared.fault.Fault.TheVariants.{Image, Mount, DamagedCommit, Refused, Step, JournalFormat, JournalMismatch, JournalImage, JournalHasChanges, CannotRead, CannotWrite, HostEntry, HostName, BadHex, BadLine, Other, Differ}
 use Rattle.lfs_request.specs.declared.other_fault.OtherFault.{OtherFault}
 use Rattle.lfs_request.specs.declared.other_fault.OtherFault.TheVariants as other
 
@@ -31,6 +31,7 @@ fault_number (Step fault) = step_fault_number fault
 fault_number JournalFormat = 50
 fault_number JournalMismatch = 51
 fault_number JournalImage = 52
+fault_number JournalHasChanges = 56
 fault_number CannotRead = 60
 fault_number CannotWrite = 61
 fault_number HostEntry = 62
@@ -47,7 +48,7 @@ is_in_range first last number = nat_le first number && nat_le number last
 -- 1: a refused command, or images that differ; 2: usage; 3: a refused image or journal; 4: memory, or what the host refused
 abbrev pub status_of_number : ℕ → ℕ
 status_of_number number =
-    if number == 0 || is_in_range 30 43 number || number == 46 || is_in_range 53 55 number then 1
+    if number == 0 || is_in_range 30 43 number || number == 46 || is_in_range 53 56 number then 1
     else (if is_in_range 64 65 number then 2
     else (if is_in_range 1 22 number || is_in_range 50 52 number then 3
     else 4))

@@ -27,6 +27,8 @@ pub enum Fault {
     JournalMismatch,
     /// Another image of the journal's history does not mount.
     JournalImage,
+    /// The journal has changes, and would be replaced.
+    JournalHasChanges,
     /// A file or a folder could not be read.
     CannotRead,
     /// A file or standard output could not be written.
@@ -62,6 +64,7 @@ impl Fault {
             Fault::JournalFormat => 50,
             Fault::JournalMismatch => 51,
             Fault::JournalImage => 52,
+            Fault::JournalHasChanges => 56,
             Fault::CannotRead => 60,
             Fault::CannotWrite => 61,
             Fault::HostEntry => 62,
@@ -79,7 +82,7 @@ impl Fault {
         ensures { result ≡ status_of_number (fault_number self) }
     {
         match self.number() {
-            0 | 30..=43 | 46 | 53..=55 => 1,
+            0 | 30..=43 | 46 | 53..=56 => 1,
             64 | 65 => 2,
             1..=22 | 50..=52 => 3,
             _ => 4,
@@ -97,6 +100,7 @@ impl Fault {
             Fault::JournalFormat => "JournalFormat",
             Fault::JournalMismatch => "JournalMismatch",
             Fault::JournalImage => "JournalImage",
+            Fault::JournalHasChanges => "JournalHasChanges",
             Fault::CannotRead => "CannotRead",
             Fault::CannotWrite => "CannotWrite",
             Fault::HostEntry => "HostEntry",

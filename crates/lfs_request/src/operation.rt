@@ -65,6 +65,13 @@ pub enum Operation<'a> {
     },
     /// The image alone, and no change that led to it or was taken back.
     Forget,
+    /// The image as a device left it, taken over.
+    Adopt {
+        /// The form in which the blocks are answered that change.
+        form: Form,
+        /// Whether a journal with changes is replaced, which is refused else.
+        replaces: bool,
+    },
     /// A step on the image's history.
     Change(Move<'a, Source<'a>>),
     /// A change of a whole tree, by several commands that are one change.

@@ -22,7 +22,8 @@ use Rattle.lfs_request.specs.declared.manner.Manner.{Manner}
 use Rattle.lfs_request.specs.declared.query.Query.{Query}
 use Rattle.lfs_request.specs.declared.query.Query.TheVariants as query
 use Rattle.lfs_step.specs.declared.step.Step.{Step}
-use Rattle.lfs_step.specs.declared.step.Step.TheVariants.{Format, Pack, Ask, Forget, Change, Tree}
+use Rattle.lfs_step.proofs.RunsLeft.{one_goes}
+use Rattle.lfs_step.specs.declared.step.Step.TheVariants.{Format, Pack, Ask, Forget, Adopt, Change, Tree}
 use Rattle.lfs_step.specs.Histories.{StepsLeaveHistories}
 use Rattle.lfs_step.specs.Outcome.{AnswersDone, given}
 use Rattle.lfs_step.proofs.OutcomeLemmas.{AnswersBy}
@@ -32,7 +33,7 @@ use Rattle.lfs_request.specs.declared.view.View.{View}
 use Rattle.lfs_step.specs.Step.{may_take_older}
 use Rattle.lfs_step.specs.Runs.{GoesOn, HasGoodRows}
 use Rattle.lfs_exchange.specs.declared.step_kind.StepKind.{StepKind}
-use Rattle.lfs_exchange.specs.declared.step_kind.StepKind.TheVariants.{Makes, Asks, Recounts, Changes, Forgets}
+use Rattle.lfs_exchange.specs.declared.step_kind.StepKind.TheVariants.{Makes, Asks, Recounts, Changes, Forgets, Adopts}
 use Rattle.lfs_exchange.specs.Handing.{HandedBytes, IsHanded, IsUnwritten, most_image}
 use Rattle.lfs_exchange.specs.StepKind.{kind_of_query, kind_of_steps}
 use Rattle.lfs_serve.specs.StepKind.{kind_of}
@@ -142,6 +143,13 @@ handed_change short size name files h b denotes handed =
     subst (λ (i : List ℕ). Denotes size i b.journal h) (sym (image_read size name b.image files h denotes handed.image))
     (subst (λ (j : List ℕ). Denotes size denotes.0 j h) (sym (journal_read short size name b.journal files h denotes handed.journal)) denotes.2)
 
+-- the same where an image is taken over
+handed_adopted : JournalsAreShort → (size : ℕ) (name : List ℕ) (files : Files) (h : History) (b : HandedBytes) → FilesDenote size name files h
+    → IsHanded Adopts 0 name (with_files files) b → Denotes size b.image b.journal h
+handed_adopted short size name files h b denotes handed =
+    subst (λ (i : List ℕ). Denotes size i b.journal h) (sym (image_read size name b.image files h denotes handed.image))
+    (subst (λ (j : List ℕ). Denotes size denotes.0 j h) (sym (journal_read short size name b.journal files h denotes handed.journal)) denotes.2)
+
 -- the laws that this stands on
 record Laws : Type 0 where
   short : JournalsAreShort
@@ -226,6 +234,11 @@ done_leads laws (Pack count limits rows) size name old new h b outcome (packed, 
 done_leads laws (Ask query form) size name old new h b outcome good denotes handed answers same = asked query form size name old new h outcome denotes same
 done_leads laws Forget size name old new h b outcome good denotes handed answers leaves =
     forgets laws size name old new h b outcome denotes handed answers leaves
+done_leads laws (Adopt form replaces) size name old new h b outcome good denotes handed answers both =
+    let g = given size b.image b.journal in
+    let on : Denotes size b.image b.journal h = handed_adopted laws.short size name old h b denotes handed in
+    let one = one_goes laws.leaves None (Adopt form replaces) g outcome h tt on answers in
+    record { next = one.new; goes = one.goes; denotes = written size name old new outcome one.new both one.leaves }
 done_leads laws (Change steps) size name old new h b outcome good denotes handed answers leaves =
     takes_all laws steps.now steps refl size name old new h b outcome denotes handed answers leaves
 done_leads laws (Tree change keep) size name old new h b outcome good denotes handed answers both =
@@ -282,6 +295,10 @@ spared _ Forgets placed size name old new h outcome denotes kept =
     inl (stays size name old new h (kept name (apart_at name).0) (kept (journal_name name) (apart_at name).1) denotes)
 spared _ Makes placed size name old new h outcome denotes (inl kept) =
     inl (stays size name old new h (kept name (image_apart name)) (kept (journal_name name) (journal_apart name)) denotes)
+spared _ Adopts placed size name old new h outcome denotes (inl kept) =
+    inl (stays size name old new h (kept name (image_apart name)) (kept (journal_name name) (journal_apart name)) denotes)
+spared _ Adopts placed size name old new h outcome denotes (inr (place, torn)) =
+    inr (place, torn.others name (image_not_journal name, image_apart name))
 spared _ Changes placed size name old new h outcome denotes (inl kept) =
     inl (stays size name old new h (kept name (image_apart name)) (kept (journal_name name) (journal_apart name)) denotes)
 spared _ Makes placed size name old new h outcome denotes (inr (place, torn)) =
@@ -323,12 +340,14 @@ good_step (operation.Extract dir path view) size scene (Pack count stated rows) 
 good_step (operation.Salvage dir view) size scene (Pack count stated rows) becomes = absurd becomes
 good_step (operation.Ask query form view) size scene (Pack count stated rows) becomes = absurd becomes
 good_step operation.Forget size scene (Pack count stated rows) becomes = absurd becomes
+good_step (operation.Adopt form replaces) size scene (Pack count stated rows) becomes = absurd becomes
 good_step (operation.Change move) size scene (Pack count stated rows) becomes = absurd becomes
 good_step (operation.Tree change keep) size scene (Pack count stated rows) becomes = absurd becomes
 good_step (operation.Batch file keep one) size scene (Pack count stated rows) becomes = absurd becomes
 good_step t size scene (Format count limits) becomes = tt
 good_step t size scene (Ask query form) becomes = tt
 good_step t size scene Forget becomes = tt
+good_step t size scene (Adopt form replaces) becomes = tt
 good_step t size scene (Change steps) becomes = tt
 good_step t size scene (Tree change keep) becomes = tt
 
@@ -373,6 +392,7 @@ asking query form view size scene (Ask question said) becomes = (question, said,
 asking query form view size scene (Format count limits) becomes = absurd becomes
 asking query form view size scene (Pack count limits rows) becomes = absurd becomes
 asking query form view size scene Forget becomes = absurd becomes
+asking query form view size scene (Adopt said replaces) becomes = absurd becomes
 asking query form view size scene (Change steps) becomes = absurd becomes
 asking query form view size scene (Tree change keep) becomes = absurd becomes
 
@@ -414,6 +434,9 @@ operation_ends laws fault (operation.Ask query form view) older size name scene 
     (λ s becomes. inr (asking query form view size scene s becomes)) before later denotes ends
 operation_ends laws fault operation.Forget older size name scene behind old new h before later denotes ends =
     step_ends laws fault operation.Forget older size name scene behind old new h (λ next goes. goes) (λ s becomes. inl refl) before later
+    denotes ends
+operation_ends laws fault (operation.Adopt form replaces) older size name scene behind old new h before later denotes ends =
+    step_ends laws fault (operation.Adopt form replaces) older size name scene behind old new h (λ next goes. goes) (λ s becomes. inl refl) before later
     denotes ends
 operation_ends laws fault (operation.Change move) older size name scene behind old new h before later denotes ends =
     step_ends laws fault (operation.Change move) older size name scene behind old new h (λ next goes. goes) (λ s becomes. inl refl) before later

@@ -15,7 +15,7 @@ use Rattle.lfs_request.specs.declared.query.Query.{Query}
 use Rattle.lfs_request.specs.declared.query.Query.TheVariants.{Check, Ls, Blocks, Cat, Diff, Log}
 use Rattle.lfs_exchange.specs.StepKind.{kind_of_query}
 use Rattle.lfs_exchange.specs.declared.step_kind.StepKind.{StepKind}
-use Rattle.lfs_exchange.specs.declared.step_kind.StepKind.TheVariants.{Makes, Asks, Recounts, Changes, Forgets}
+use Rattle.lfs_exchange.specs.declared.step_kind.StepKind.TheVariants.{Makes, Asks, Recounts, Changes, Forgets, Adopts}
 use Rattle.lfs_exchange.specs.Handing.{HandedBytes, HandsImage, HandsJournal, IsClaimed, IsHanded, IsUnwritten, HandsQuestion}
 use Rattle.lfs_serve.specs.StepKind.{kind_of}
 use Rattle.lfs_exchange.specs.Storing.{LeavesFiles, SparesFiles}
@@ -39,6 +39,7 @@ leaves_target Recounts None new name target o leads leaves = leaves
 leaves_target Forgets None new name target o leads leaves = tt
 leaves_target Makes None new name target o leads leaves = tt
 leaves_target Changes None new name target o leads leaves = tt
+leaves_target Adopts None new name target o leads leaves = tt
 
 -- and what is spared of it
 spares_target : (fault : Fault) (kind : StepKind) (placed : Option Bool) (old new : Option Files) (name target : List ℕ) (o : Outcome)
@@ -51,6 +52,7 @@ spares_target _ Recounts placed None new name target o leads spares = spares
 spares_target _ Forgets placed None new name target o leads spares = tt
 spares_target _ Makes placed None new name target o leads spares = inl tt
 spares_target _ Changes placed None new name target o leads spares = inl tt
+spares_target _ Adopts placed None new name target o leads spares = inl tt
 
 -- the same by what is known of the target's name, of the files that were there, of the kind and of the outcome
 pub leaves_at : (kind other : StepKind) (old mid new : Option Files) (name target at : List ℕ) (o left : Outcome) → IsTarget old name target
@@ -92,6 +94,7 @@ claimed_at Recounts mid new target at is same has = tt
 claimed_at Makes mid new target at is same has = has_claimed mid new target at is same has
 claimed_at Changes mid new target at is same has = has_claimed mid new target at is same has
 claimed_at Forgets mid new target at is same has = has_claimed mid new target at is same has
+claimed_at Adopts mid new target at is same has = has_claimed mid new target at is same has
 
 -- ---- what is handed
 
@@ -156,7 +159,7 @@ pub step_ran : (step : Step) (manner : Manner) (size : ℕ) (name : List ℕ) (o
     (fault : Option Fault) (after : Option (List ℕ)) (outcome : Outcome) → IsHanded (kind_of step) (start_of manner.view) name old h
     → refused_by manner (later_read step size h.image) ≡ None → TellsVersion step manner.view.by_device size h.image → IsReadBy manner.view size h.image image
     → Answers step (given size image h.journal) outcome → outcome.fault ≡ fault
-    → SendsText step (given size image h.journal) fault old.printed after → new.printed ≡ after → IsBlamed fault new
+    → SendsText step (given size image h.journal) outcome old.printed after → new.printed ≡ after → IsBlamed fault new
     → RunsStep step manner size name old new fault outcome
 step_ran step manner size name old new h image fault after outcome is none tells reads answers fault_is sends last blamed = record {
   bytes = h;
@@ -167,7 +170,7 @@ step_ran step manner size name old new h image fault after outcome is none tells
   read = reads;
   answers = answers;
   fault_is = fault_is;
-  sends = subst (λ (p : Option (List ℕ)). SendsText step (given size image h.journal) fault old.printed p) (sym last) sends;
+  sends = subst (λ (p : Option (List ℕ)). SendsText step (given size image h.journal) outcome old.printed p) (sym last) sends;
   blamed = blamed;
 }
 
@@ -240,7 +243,7 @@ runs_from step manner size name mid old new fault outcome files printed runs = r
   read = runs.read;
   answers = runs.answers;
   fault_is = runs.fault_is;
-  sends = subst (λ (p : Option (List ℕ)). SendsText step (given size runs.image runs.bytes.journal) fault p new.printed) printed runs.sends;
+  sends = subst (λ (p : Option (List ℕ)). SendsText step (given size runs.image runs.bytes.journal) outcome p new.printed) printed runs.sends;
   blamed = runs.blamed;
 }
 

@@ -16,7 +16,7 @@ use Rattle.lfs_host.specs.Scene.{HasRefused, KeepsScene, Scene}
 use Rattle.lfs_pack.specs.declared.pack_row.PackRow.{PackRow}
 use Rattle.lfs_request.specs.declared.request.Request.{Request}
 use Rattle.lfs_request.specs.declared.operation.Operation.{Operation}
-use Rattle.lfs_request.specs.declared.operation.Operation.TheVariants.{Format, Pack, Repack, Extract, Salvage, Ask, Forget, Change, Tree, Batch}
+use Rattle.lfs_request.specs.declared.operation.Operation.TheVariants.{Format, Pack, Repack, Extract, Salvage, Ask, Forget, Adopt, Change, Tree, Batch}
 use Rattle.lfs_open.specs.Blamed.{IsBlamed}
 use Rattle.lfs_open.specs.Extent.{IsExtent}
 use Rattle.lfs_step.specs.declared.step.Step.{Step}
@@ -24,7 +24,7 @@ use Rattle.lfs_step.specs.declared.step.Step.TheVariants as step
 use Rattle.lfs_step.specs.Outcome.{Answers, SendsText, given}
 use Rattle.lfs_step.specs.Step.{may_take_older}
 use Rattle.lfs_exchange.specs.declared.step_kind.StepKind.{StepKind}
-use Rattle.lfs_exchange.specs.declared.step_kind.StepKind.TheVariants.{Makes, Changes, Forgets}
+use Rattle.lfs_exchange.specs.declared.step_kind.StepKind.TheVariants.{Makes, Changes, Forgets, Adopts}
 use Rattle.lfs_exchange.specs.Handing.{HandedBytes, HandsInput, HandsQuestion, IsHanded, IsNotTakenUp, IsOtherUnread, IsUnread, IsUnwritten, reads_input}
 use Rattle.lfs_exchange.specs.Printing.{HandsOn}
 use Rattle.lfs_exchange.specs.StepKind.{kind_of_query, kind_of_steps}
@@ -59,7 +59,7 @@ pub record RunsStep (step : Step) (manner : Manner) (size : ℕ) (name : List �
   pub read : IsReadBy manner.view size bytes.image image
   pub answers : Answers step (given size image bytes.journal) outcome
   pub fault_is : outcome.fault ≡ fault
-  pub sends : SendsText step (given size image bytes.journal) fault old.printed new.printed
+  pub sends : SendsText step (given size image bytes.journal) outcome old.printed new.printed
   pub blamed : IsBlamed fault new
 
 -- a step is refused for a commit of a later version in what it was to be done on
@@ -103,6 +103,7 @@ BecomesStep (Ask query form view) size s (step.Ask question said) =
     (handed : Question) × (image : List ℕ) × HandsQuestion s.files query handed × IsAskedBy view.by_device size image handed question
     × (said ≡ form)
 BecomesStep Forget size s step.Forget = ⊤
+BecomesStep (Adopt form replaces) size s (step.Adopt said asked) = (said ≡ form) × (asked ≡ replaces)
 BecomesStep (Change move) size s (step.Change steps) =
     (read : List ℕ) × HandsInput move s.files s.typed read × (map step_of steps.now ≡ step_by (bytes_given read) move ∷ [])
 BecomesStep (Tree change keep) size s (step.Tree became kept) = BecomesChange change s became × (kept ≡ keep)
@@ -128,6 +129,7 @@ HasKind (Extract dir path view) s kind = ⊥
 HasKind (Salvage dir view) s kind = ⊥
 HasKind (Ask query form view) s kind = kind ≡ kind_of_query query
 HasKind Forget s kind = kind ≡ Forgets
+HasKind (Adopt form replaces) s kind = kind ≡ Adopts
 HasKind (Change move) s kind = kind ≡ Changes
 HasKind (Tree change keep) s kind = (kind ≡ Changes) × IsReadFirst change s
 HasKind (Batch file keep one) s kind = (moves : List change.Move) × BecomesBatch file keep one s moves × (kind ≡ kind_of_steps moves)

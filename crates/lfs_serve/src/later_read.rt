@@ -28,10 +28,16 @@ pub(crate) fn pass_step(
     pass(manner, later_read(step, size, image), context)
 }
 
-/// Those in an image of these bytes, and in the one that it is compared with.
+/// Those in an image of these bytes, and in the one that it is compared with. An image is taken over with them.
 fn later_read(step: &Step<'_>, size: u32, image: &[u8]) -> Later
     ensures { result ≡ later_read step.now size image.now }
 {
+    if let Step::Adopt { .. } = step {
+        return Later {
+            image: None,
+            other: None,
+        };
+    }
     let other = match step {
         Step::Ask {
             query: Query::Diff {

@@ -2,16 +2,17 @@
 
 ghost use Rattle.std.specs.Prelude.{◌≡◌};
 
-use crate::unfinished::{is_nothing, unfinished_lines, unfinished_within};
+use crate::unfinished::{Telling, is_nothing, unfinished_lines, unfinished_within};
 use lfs_block::Image;
 use lfs_report::Context;
-use lfs_request::{Manner, Query};
-use lfs_settle::{Ended, unfinished};
+use lfs_request::{Manner, Outcome, Query};
+use lfs_settle::{Ended, read_by_device, settle, unfinished};
 use lfs_step::Step;
 use lfs_survey::image_notes;
-use std::alloc::Global;
+use std::alloc::{AllocError, Global};
+use std::mem::replace;
 
-/// Puts into `context` what is told of an image of these bytes beside the answer to a question: of which pairs an older state is read, and,
+/// Puts into `context` what is told of an image of these bytes beside the answer to a question, or where it is taken over: of which pairs an older state is read, and,
 /// if its directories are asked for, which of them go on in a part without an entry. Takes memory, and tells of nothing if it is
 /// refused.
 pub(crate) fn note_step(
@@ -76,7 +77,7 @@ pub(crate) fn note_unfinished(
     }
     match Image::new(bytes, size) {
         Ok(image) => {
-            if let Ok(lines) = unfinished_lines(alloc, &image, &ended) {
+            if let Ok(lines) = unfinished_lines(alloc, &image, &ended, Telling::Read) {
                 add_lines(context, lines);
             }
             image.into_bytes()
@@ -85,8 +86,55 @@ pub(crate) fn note_unfinished(
     }
 }
 
+/// What is told of what was left unfinished in an image of these bytes, if it is taken over. Takes memory, and tells of nothing if it is
+/// refused.
+pub(crate) fn lines_taken_over(
+    alloc: Global,
+    step: &Step<'_>,
+    size: u32,
+    bytes: &[u8],
+) -> Vec<String> {
+    let Step::Adopt { .. } = step else {
+        return Vec::new(alloc);
+    };
+    match lines_ended(alloc, size, bytes) {
+        Ok(lines) => lines,
+        Err(_) => Vec::new(alloc),
+    }
+}
+
+/// The outcome with its image as a device reads it, in which the place of a fault is looked for. Takes memory, and leaves it as it is if it
+/// is refused.
+pub(crate) fn by_device(
+    alloc: Global,
+    size: u32,
+    outcome: Outcome,
+    context: &mut Context,
+) -> Outcome {
+    let mut outcome = outcome;
+    let image = replace(&mut outcome.image, Vec::new(alloc));
+    if let Ok(image) = read_by_device(alloc, size, image) {
+        outcome.image = image;
+        context.by_device = true;
+    }
+    outcome
+}
+
+/// What is told of what is ended in an image of these bytes. Takes memory.
+fn lines_ended(alloc: Global, size: u32, bytes: &[u8]) -> Result<Vec<String>, AllocError> {
+    let own = Vec::from_slice(alloc, bytes)?;
+    let Ok(mut image) = Image::new(own, size) else {
+        return Ok(Vec::new(alloc));
+    };
+    let ended = settle(alloc, &mut image)?;
+    if is_nothing(&ended) {
+        return Ok(Vec::new(alloc));
+    }
+    unfinished_lines(alloc, &image, &ended, Telling::TakenOver)
+}
+
 /// Puts lines after those that are there, unless memory is refused.
-fn add_lines(context: &mut Context, lines: Vec<String>) {
+pub(crate) fn add_lines(context: &mut Context, lines: Vec<String>) {
     let mut lines = lines;
     let _is_kept = context.lines.append(&mut lines);
 }
@@ -101,7 +149,8 @@ fn telling_of(step: &Step<'_>) -> Option<bool> {
         Step::Ask {
             query: Query::Blocks { .. },
             ..
-        } => Some(false),
+        }
+        | Step::Adopt { .. } => Some(false),
         _ => None,
     }
 }

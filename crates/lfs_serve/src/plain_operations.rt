@@ -3,7 +3,7 @@
 ghost use Rattle.lfs_fs.specs.Superblock.{IsLimits};
 ghost use Rattle.lfs_report.specs.Stop.{stopped_by};
 ghost use Rattle.lfs_request.specs.Operation.{IsOperationInRange};
-ghost use Rattle.lfs_request.specs.declared.operation.Operation.TheVariants.{Ask, Change, Forget, Format};
+ghost use Rattle.lfs_request.specs.declared.operation.Operation.TheVariants.{Adopt, Ask, Change, Forget, Format};
 ghost use Rattle.lfs_serve.specs.Program.{EndsOperation, OperationLeavesRest};
 
 use crate::stepping::{stepped, stepped_in};
@@ -84,6 +84,24 @@ pub(crate) fn forgotten<H: Host>(
 {
     let handed = taken_up(alloc, host, StepKind::Forgets, 0, request.image)?;
     stepped(alloc, host, request, context, handed, Step::Forget)
+}
+
+/// Takes an image over as a device left it, and says in a form which blocks change. Takes memory.
+pub(crate) fn adopted<H: Host>(
+    alloc: Global,
+    host: &mut H,
+    request: &Request<'_>,
+    context: &mut Context,
+    form: Form,
+    replaces: bool,
+) -> Result<(), Stop>
+    ensures ended { EndsOperation (Adopt form replaces) request.now.takes_older request.now.size request.now.image.now
+        (H.known host.old) (H.known host.new) (stopped_by result) }
+    ensures rest { OperationLeavesRest (Adopt form replaces) (H.known host.old) (H.known host.new) }
+{
+    let handed = taken_up(alloc, host, StepKind::Adopts, 0, request.image)?;
+    let step = Step::Adopt { form, replaces };
+    stepped(alloc, host, request, context, handed, step)
 }
 
 /// Takes a step on an image's history: the contents that it puts are read last. Takes memory.

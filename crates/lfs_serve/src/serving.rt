@@ -7,7 +7,7 @@ ghost use Rattle.lfs_serve.specs.Program.{EndsRequest, EndsOperation, IsNotSpare
 
 use crate::batching::batched;
 use crate::packing::packed;
-use crate::plain_operations::{changed, forgotten, formatted, queried};
+use crate::plain_operations::{adopted, changed, forgotten, formatted, queried};
 use crate::repacking::repacked;
 use crate::tree_operations::tree_changed;
 use lfs_exchange::spare;
@@ -83,6 +83,9 @@ fn done<H: Host>(
             queried(alloc, host, request, context, query, *form, *view)
         }
         Operation::Forget => forgotten(alloc, host, request, context),
+        Operation::Adopt { form, replaces } => {
+            adopted(alloc, host, request, context, *form, *replaces)
+        }
         Operation::Change(step) => changed(alloc, host, request, context, step),
         Operation::Tree { change, keep } => {
             tree_changed(alloc, host, request, context, change, *keep)

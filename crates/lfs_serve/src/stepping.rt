@@ -16,7 +16,9 @@ ghost use Rattle.lfs_open.specs.Blamed.{IsBlamed};
 ghost use Rattle.lfs_serve.specs.Program.{EndsStep, TellsVersion, as_it_is};
 
 use crate::later_read::pass_step;
-use crate::noting::{note_step, note_unfinished, unfinished_in};
+use crate::noting::{
+    add_lines, by_device, lines_taken_over, note_step, note_unfinished, unfinished_in,
+};
 use crate::seeing::seen_of;
 use lfs_exchange::{Handed, Output, StepKind, flush, stored};
 use lfs_host::Host;
@@ -92,6 +94,7 @@ pub(crate) fn stepped_in<H: Host>(
 {
     pass_step(manner, &step, request.size, &handed.image, context)?;
     note_step(alloc, manner, &step, request.size, &handed.image, context);
+    let lines = lines_taken_over(alloc, &step, request.size, &handed.image);
     let Handed {
         kind,
         target,
@@ -102,7 +105,11 @@ pub(crate) fn stepped_in<H: Host>(
     let read = read_by(alloc, manner.view, request.size, held)?;
     let image = note_unfinished(alloc, request.size, read, ended, context);
     match taken(alloc, host, request, context, step, image, journal) {
-        Ok(outcome) => Ok(stored(alloc, host, kind, target.as_str(), &outcome)?),
+        Ok(outcome) => {
+            stored(alloc, host, kind, target.as_str(), &outcome)?;
+            add_lines(context, lines);
+            Ok(())
+        }
         Err(stop) => Err(stopped(alloc, host, request.size, kind, target.as_str(), stop)),
     }
 }
@@ -155,16 +162,24 @@ fn taken<H: Host>(
     requires { IsStepInRange step }
     ensures ran { (outcome : Outcome) × Answers step.entry (given request.now.size image.items journal.items) outcome
         × (outcome.fault ≡ stopped_by result)
-        × SendsText step.entry (given request.now.size image.items journal.items) (stopped_by result) (H.known host.old).printed (H.known host.new).printed
+        × SendsText step.entry (given request.now.size image.items journal.items) outcome (H.known host.old).printed (H.known host.new).printed
         × IfOk result (λ left. left ≡ outcome) }
     ensures blamed { IsBlamed (stopped_by result) (H.known host.new) }
     ensures kept { KeepsInput (H.known host.old) (H.known host.new) }
 {
     let seen = seen_of(&step);
+    let adopts = matches!(step, Step::Adopt { .. });
     let outcome = ran(alloc, host, request.size, step, image, journal);
     match outcome.fault {
         None => Ok(outcome),
-        Some(fault) => Err(stop_of_run(alloc, request, fault, outcome, seen, context)),
+        Some(fault) => {
+            let outcome = if adopts {
+                by_device(alloc, request.size, outcome, context)
+            } else {
+                outcome
+            };
+            Err(stop_of_run(alloc, request, fault, outcome, seen, context))
+        }
     }
 }
 
@@ -179,7 +194,7 @@ fn ran<H: Host>(
 ) -> Outcome
     requires { IsStepInRange step }
     ensures answers { Answers step.entry (given size image.items journal.items) result }
-    ensures sent { SendsText step.entry (given size image.items journal.items) result.fault (H.known host.old).printed (H.known host.new).printed }
+    ensures sent { SendsText step.entry (given size image.items journal.items) result (H.known host.old).printed (H.known host.new).printed }
     ensures blamed { IsBlamed result.fault (H.known host.new) }
     ensures kept { KeepsInput (H.known host.old) (H.known host.new) }
 {

@@ -7,8 +7,19 @@ use std::alloc::{AllocError, Global};
 
 /// The most blocks that an image has.
 const MOST_BLOCKS: usize = MAX_BLOCK_COUNT as usize;
-/// What is told of a directory that no path leads to.
+/// What is told of a directory that no path leads to, if the image is read so.
 const LEFT_OUT: &str = "that no path leads to is left out; salvage saves it";
+/// The same if the image was taken over.
+const DROPPED: &str = "that no path led to is dropped; salvage saves it from a copy made before";
+
+/// What became of what a device left unfinished.
+#[derive(Clone, Copy)]
+pub(crate) enum Telling {
+    /// The image is read as the device's next change leaves it.
+    Read,
+    /// The image was taken over.
+    TakenOver,
+}
 
 /// What is ended of what a device left unfinished in the image of blocks of `size` bytes that bytes begin with, of all complete blocks that
 /// are there; `None` if they are no image. Takes memory.
@@ -40,14 +51,15 @@ pub(crate) fn unfinished_lines(
     alloc: Global,
     image: &Image,
     ended: &Ended,
+    telling: Telling,
 ) -> Result<Vec<String>, AllocError> {
     let survey = survey_all(alloc, image)?;
     let mut lines = Lines::new(alloc);
     if let Some(moved) = &ended.moved {
-        lines.add(Some(moved_line(alloc, &survey, moved)?))?;
+        lines.add(Some(moved_line(alloc, &survey, moved, telling)?))?;
     }
-    add_dropped(alloc, &mut lines, ended)?;
-    add_steps(alloc, &mut lines, &survey, ended)?;
+    add_dropped(alloc, &mut lines, ended, telling)?;
+    add_steps(alloc, &mut lines, &survey, ended, telling)?;
     lines.ended(alloc, "directories are left out, or stand elsewhere")
 }
 
@@ -83,54 +95,85 @@ fn path_of(alloc: Global, survey: &Survey, pair: (u32, u32)) -> Result<Option<St
 // ---- lines
 
 /// What is told of an entry that was being moved.
-fn moved_line(alloc: Global, survey: &Survey, moved: &EndedMove) -> Result<String, AllocError> {
+fn moved_line(
+    alloc: Global,
+    survey: &Survey,
+    moved: &EndedMove,
+    telling: Telling,
+) -> Result<String, AllocError> {
+    let what = match telling {
+        Telling::Read => "was being moved; it is read at its new place",
+        Telling::TakenOver => "was being moved; its old place is cleared",
+    };
     let name = Shown {
         bytes: &moved.entry.name,
     };
     let blocks = BlocksText { pair: moved.pair };
     match path_of(alloc, survey, moved.pair)? {
-        None => format!(in alloc; "{blocks}: {name} was being moved; it is read at its new place"),
+        None => format!(in alloc; "{blocks}: {name} {what}"),
         Some(path) => {
             let at = path.as_str();
             let slash = if at == "/" { "" } else { "/" };
-            format!(in alloc; "{at}{slash}{name} was being moved; it is read at its new place")
+            format!(in alloc; "{at}{slash}{name} {what}")
         }
     }
 }
 
 /// What is told of a directory that no path leads to; nothing if it has no entry.
-fn dropped_line(alloc: Global, dropped: &DroppedDirectory) -> Result<Option<String>, AllocError> {
+fn dropped_line(
+    alloc: Global,
+    dropped: &DroppedDirectory,
+    telling: Telling,
+) -> Result<Option<String>, AllocError> {
+    let what = match telling {
+        Telling::Read => LEFT_OUT,
+        Telling::TakenOver => DROPPED,
+    };
     let blocks = BlocksText { pair: dropped.pair };
     let line = match dropped.entries.len() {
         0 => return Ok(None),
-        1 => format!(in alloc; "{blocks}: a directory with 1 entry {LEFT_OUT}")?,
-        count => format!(in alloc; "{blocks}: a directory with {count} entries {LEFT_OUT}")?,
+        1 => format!(in alloc; "{blocks}: a directory with 1 entry {what}")?,
+        count => format!(in alloc; "{blocks}: a directory with {count} entries {what}")?,
     };
     Ok(Some(line))
 }
 
 /// What is told of a directory that stands elsewhere than the thread says.
-fn step_line(alloc: Global, survey: &Survey, step: &EndedStep) -> Result<String, AllocError> {
+fn step_line(
+    alloc: Global,
+    survey: &Survey,
+    step: &EndedStep,
+    telling: Telling,
+) -> Result<String, AllocError> {
+    let names = match telling {
+        Telling::Read => "names",
+        Telling::TakenOver => "named",
+    };
     let to = BlocksText { pair: step.to };
     let from = BlocksText { pair: step.from };
     match path_of(alloc, survey, step.to)? {
         None => {
             format!(in alloc;
-                "{to}: a directory stands here, not in {from}, which the thread names"
+                "{to}: a directory stands here, not in {from}, which the thread {names}"
             )
         }
         Some(path) => {
             let at = path.as_str();
-            format!(in alloc; "{at} stands in {to}, not in {from}, which the thread names")
+            format!(in alloc; "{at} stands in {to}, not in {from}, which the thread {names}")
         }
     }
 }
 
 /// Adds a line for each directory that no path leads to.
-fn add_dropped(alloc: Global, lines: &mut Lines, ended: &Ended) -> Result<(), AllocError> {
+fn add_dropped(
+    alloc: Global,
+    lines: &mut Lines,
+    ended: &Ended,
+    telling: Telling,
+) -> Result<(), AllocError> {
     for dropped in &ended.dropped {
         if lines.takes_one() {
-            lines.add(dropped_line(alloc, dropped)?)?;
+            lines.add(dropped_line(alloc, dropped, telling)?)?;
         }
     }
     Ok(())
@@ -142,10 +185,11 @@ fn add_steps(
     lines: &mut Lines,
     survey: &Survey,
     ended: &Ended,
+    telling: Telling,
 ) -> Result<(), AllocError> {
     for step in &ended.steps {
         if lines.takes_one() {
-            lines.add(Some(step_line(alloc, survey, step)?))?;
+            lines.add(Some(step_line(alloc, survey, step, telling)?))?;
         }
     }
     Ok(())

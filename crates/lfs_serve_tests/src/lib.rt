@@ -13,6 +13,8 @@ mod memory_rows;
 mod recorders;
 #[cfg(test)]
 mod shelves;
+#[cfg(test)]
+mod taking_over;
 
 pub use asking::ask_in_memory;
 pub use memory_rows::rows_in_memory;

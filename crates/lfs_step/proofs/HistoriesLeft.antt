@@ -1,5 +1,6 @@
 -- What a step leaves denotes the history to which it leads.
-use Rattle.std.proofs.Common.{◌≡◌, ◌∷◌, ℕ, List, [], Option, map, refl, sym, subst, arith}
+use Rattle.std.proofs.Common.{◌≡◌, ◌∷◌, ◌∙◌, ℕ, Bool, true, false, List, [], Option, map, refl, ap, sym, subst, arith}
+use Rattle.std.specs.Prelude.{if◌then◌else◌}
 use Rattle.lfs_block.specs.Disk.{Disk, IsDisk, image_of}
 use Rattle.lfs_journal.specs.Book.{book_of, journal_bytes}
 use Rattle.lfs_edit.specs.Formatted.{disk_with}
@@ -18,11 +19,15 @@ use Rattle.lfs_block.proofs.BytesLemmas.{image_of_disk}
 use Rattle.lfs_change.proofs.ChangeLemmas.{denoted_present, opened_denotes}
 use Rattle.lfs_change.proofs.LawLemmas.{one_denoted, some_bytes}
 use Rattle.lfs_step.specs.declared.step.Step.{Step}
-use Rattle.lfs_step.specs.declared.step.Step.TheVariants.{Format, Pack, Ask, Forget, Change, Tree}
-use Rattle.lfs_step.specs.Histories.{KeepsHistories, StepsLeaveHistories}
+use Rattle.lfs_step.specs.declared.step.Step.TheVariants.{Format, Pack, Ask, Forget, Adopt, Change, Tree}
+use Rattle.lfs_step.specs.Adopting.{LeavesTakenOver, journal_stays}
+use Rattle.lfs_step.specs.Histories.{KeepsHistories, LeavesAdopted, StepsLeaveHistories}
 use Rattle.lfs_step.specs.Outcome.{Answers, Given, KeepsBoth}
 use Rattle.lfs_step.specs.TreeChanging.{IsAsked}
+use Rattle.lfs_adopt.specs.Changed.{changed_blocks}
+use Rattle.lfs_step.proofs.AdoptingLemmas.{none_changed}
 use Rattle.lfs_step.proofs.OutcomeLemmas.{AnswersBy}
+use Rattle.lfs_step.proofs.Unchanged.{unchanged}
 
 -- ---- a new image
 
@@ -72,6 +77,45 @@ forgets opens g outcome is =
     subst (λ (l : List ℕ). Denotes g.size l outcome.journal.items h) (sym is.image_is)
     (subst (λ (l : List ℕ). Denotes g.size g.image l h) (sym is.journal_is) (is.denotes.0, opened))
 
+-- ---- where an image is taken over
+
+-- whether the journal stays
+abbrev pub does_stay : Given → Outcome → Bool
+does_stay g outcome = journal_stays (changed_blocks (image_of g.size g.image) (image_of g.size outcome.image.items)) g.journal
+
+-- no block changes then
+pub no_block : (g : Given) (outcome : Outcome) → does_stay g outcome ≡ true
+    → changed_blocks (image_of g.size g.image) (image_of g.size outcome.image.items) ≡ []
+no_block g outcome stays = none_changed (changed_blocks (image_of g.size g.image) (image_of g.size outcome.image.items)) g.journal stays
+
+-- and the image stays with the journal
+pub both_stay : (replaces : Bool) (g : Given) (outcome : Outcome) → LeavesTakenOver replaces g.size g.image g.journal outcome
+    → does_stay g outcome ≡ true → KeepsBoth g outcome
+both_stay replaces g outcome taken stays =
+    let d = image_of g.size g.image in
+    let e = image_of g.size outcome.image.items in
+    let fresh = journal_bytes (journal_of (fresh_history e)) in (
+      unchanged d e taken.old taken.adopted.disk taken.adopted.size taken.adopted.count (no_block g outcome stays),
+      taken.journal_is ∙ ap (λ (t : Bool). if t then g.journal else fresh) stays,
+    )
+
+-- else a history begins
+adopted_begins : SavedHistoriesOpen → (replaces : Bool) (g : Given) (outcome : Outcome)
+    → LeavesTakenOver replaces g.size g.image g.journal outcome → does_stay g outcome ≡ false
+    → Denotes g.size outcome.image.items outcome.journal.items (fresh_history (image_of g.size outcome.image.items))
+adopted_begins opens replaces g outcome taken goes =
+    let e = image_of g.size outcome.image.items in
+    let h = fresh_history e in
+    let fresh = journal_bytes (journal_of h) in
+    let opened : DenotesOn e fresh h = opened_denotes e fresh h (some_bytes (journal_of h)) (opens h taken.history) in
+    let left : outcome.journal.items ≡ fresh = taken.journal_is ∙ ap (λ (t : Bool). if t then g.journal else fresh) goes in
+    (taken.adopted.disk, subst (λ (l : List ℕ). DenotesOn e l h) (sym left) opened)
+
+adopted_leaves : SavedHistoriesOpen → (replaces : Bool) (g : Given) (outcome : Outcome)
+    → LeavesTakenOver replaces g.size g.image g.journal outcome → (t : Bool) → does_stay g outcome ≡ t → LeavesAdopted t g outcome
+adopted_leaves opens replaces g outcome taken true stays = λ old denotes. asked_leaves g outcome (both_stay replaces g outcome taken stays) old denotes
+adopted_leaves opens replaces g outcome taken false goes = adopted_begins opens replaces g outcome taken goes
+
 -- ---- any step
 
 pub steps_leave_histories : JournalsDenoteOneHistory → SavedHistoriesOpen → ChangedBytesAreDenoted → StepsLeaveHistories
@@ -83,6 +127,8 @@ steps_leave_histories one opens denoted (Pack count limits rows) g outcome (is, 
     begins opens g.size count outcome.image.items outcome.journal.items packs.disk (packs.volume, packs.holds, packs.sound) empty
 steps_leave_histories one opens denoted (Ask query form) g outcome both = λ old denotes. asked_leaves g outcome both old denotes
 steps_leave_histories one opens denoted Forget g outcome forgotten = forgets opens g outcome forgotten
+steps_leave_histories one opens denoted (Adopt form replaces) g outcome taken =
+    adopted_leaves opens replaces g outcome taken (does_stay g outcome) refl
 steps_leave_histories one opens denoted (Change steps) g outcome changes = λ old denotes.
     let moves = map step_of steps.now in
     let same = one_denoted one (image_of g.size g.image) g.journal changes.old old changes.denotes.1 denotes.1 in (

@@ -15,3 +15,5 @@ pub mod RecountingLemmas
 pub mod TreeLemmas
 pub mod TreeSaid
 pub mod TreesChanged
+pub mod Unchanged
+pub mod AdoptingLemmas

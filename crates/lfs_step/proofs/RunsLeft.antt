@@ -1,15 +1,20 @@
 -- Where lists of runs lead.
-use Rattle.std.proofs.Common.{ℕ, List, [], ◌∷◌, Option, Some, None, ap, refl, sym, subst}
+use Rattle.std.proofs.Common.{◌≡◌, ℕ, Bool, true, false, List, [], ◌∷◌, Option, Some, None, inl, inr, ap, refl, sym, ◌∙◌, subst}
 use Rattle.lfs_history.specs.History.{History, fresh_history}
 use Rattle.lfs_request.specs.declared.fault.Fault.{Fault}
 use Rattle.lfs_request.specs.declared.outcome.Outcome.{Outcome}
-use Rattle.lfs_block.specs.Disk.{image_of}
+use Rattle.lfs_adopt.specs.Adopted.{IsAdoptedImage}
+use Rattle.lfs_adopt.specs.Changed.{changed_blocks}
+use Rattle.lfs_block.specs.Disk.{Disk, image_of}
+use Rattle.lfs_json.specs.declared.form.Form.{Form}
 use Rattle.lfs_change.specs.Change.{Denotes}
 use Rattle.lfs_change.proofs.ChangeLemmas.{denoted_present}
 use Rattle.lfs_step.specs.declared.step.Step.{Step}
-use Rattle.lfs_step.specs.declared.step.Step.TheVariants.{Format, Pack, Ask, Forget, Change, Tree}
-use Rattle.lfs_step.specs.Histories.{Leaves, StepsLeaveHistories}
+use Rattle.lfs_step.specs.declared.step.Step.TheVariants.{Format, Pack, Ask, Forget, Adopt, Change, Tree}
+use Rattle.lfs_step.specs.Adopting.{LeavesTakenOver}
+use Rattle.lfs_step.specs.Histories.{Leaves, LeavesAdopted, StepsLeaveHistories}
 use Rattle.lfs_step.specs.Outcome.{Given, given}
+use Rattle.lfs_step.proofs.HistoriesLeft.{both_stay, does_stay, no_block}
 use Rattle.lfs_step.proofs.OutcomeLemmas.{AnswersBy}
 use Rattle.lfs_step.specs.Runs.{BothFiles, GoesBy, HasGoodRows, RunsGoOn, left_files}
 
@@ -18,6 +23,27 @@ pub record Goes (fault : Option Fault) (step : Step) (g : Given) (outcome : Outc
   pub new : History
   pub goes : GoesBy fault outcome.at step g old new
   pub leaves : Leaves g outcome new
+
+-- an image that is taken over begins a history, or stays with the one that it had
+goes_over : (form : Form) (replaces : Bool) (g : Given) (outcome : Outcome) (old : History) → Denotes g.size g.image g.journal old
+    → LeavesTakenOver replaces g.size g.image g.journal outcome → (t : Bool) → does_stay g outcome ≡ t → LeavesAdopted t g outcome
+    → Goes None (Adopt form replaces) g outcome old
+goes_over form replaces g outcome old denotes taken true stays leaves =
+    let d = image_of g.size g.image in
+    let present : d ≡ old.present = sym (denoted_present d g.journal old denotes.1) in
+    let same : image_of g.size outcome.image.items ≡ old.present = ap (image_of g.size) (both_stay replaces g outcome taken stays).0 ∙ present in
+    let adopted = subst (λ (x : Disk). IsAdoptedImage x old.present) present (subst (IsAdoptedImage d) same taken.adopted) in
+    let none = subst (λ (x : Disk). changed_blocks x old.present ≡ []) present
+    (subst (λ (x : Disk). changed_blocks d x ≡ []) same (no_block g outcome stays)) in
+    record { new = old; goes = (adopted, inr (refl, none)); leaves = leaves old denotes }
+goes_over form replaces g outcome old denotes taken false goes leaves =
+    let e = image_of g.size outcome.image.items in
+    let present = sym (denoted_present (image_of g.size g.image) g.journal old denotes.1) in
+    record {
+      new = fresh_history e;
+      goes = (subst (λ (x : Disk). IsAdoptedImage x e) present taken.adopted, inl refl);
+      leaves = leaves;
+    }
 
 pub one_goes : StepsLeaveHistories → (fault : Option Fault) (step : Step) (g : Given) (outcome : Outcome) (old : History)
     → HasGoodRows step → Denotes g.size g.image g.journal old → AnswersBy fault step g outcome → Goes fault step g outcome old
@@ -41,6 +67,8 @@ one_goes leaves None Forget g outcome old good denotes answers = record {
   goes = ap fresh_history (sym (denoted_present (image_of g.size g.image) g.journal old denotes.1));
   leaves = leaves Forget g outcome answers;
 }
+one_goes leaves None (Adopt form replaces) g outcome old good denotes answers =
+    goes_over form replaces g outcome old denotes answers (does_stay g outcome) refl (leaves (Adopt form replaces) g outcome answers)
 one_goes leaves None (Change steps) g outcome old good denotes answers =
     let (new, takes, to) = leaves (Change steps) g outcome answers old denotes in
     record { new = new; goes = takes; leaves = to }

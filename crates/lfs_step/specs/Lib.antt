@@ -4,6 +4,8 @@ pub mod Listed
 pub mod Log
 pub mod Between
 pub mod Step
+pub mod ChangedText
+pub mod Adopting
 pub mod Outcome
 pub mod Query
 pub mod Comparing

@@ -1,5 +1,5 @@
 -- Lists of runs of any steps, each of which is handed the bytes that the one before left (own).
-use Rattle.std.specs.Prelude.{◌≡◌, ℕ, List, [], ◌∷◌, Option, Some, None, map}
+use Rattle.std.specs.Prelude.{◌≡◌, ◌⊎◌, ℕ, List, [], ◌∷◌, Option, Some, None, map}
 use Rattle.std.specs.List.{AllByRecursion}
 use Rattle.lfs_edit.specs.Formatted.{IsFormatted}
 use Rattle.lfs_history.specs.Batch.{TakesAll}
@@ -8,11 +8,13 @@ use Rattle.lfs_history.specs.Meaning.{step_of}
 use Rattle.lfs_history.specs.Moves.{Forgets}
 use Rattle.lfs_request.specs.declared.fault.Fault.{Fault}
 use Rattle.lfs_request.specs.declared.outcome.Outcome.{Outcome}
+use Rattle.lfs_adopt.specs.Adopted.{IsAdoptedImage}
+use Rattle.lfs_adopt.specs.Changed.{changed_blocks}
 use Rattle.lfs_change.specs.Change.{Denotes}
 use Rattle.lfs_pack.specs.Packed.{AreRowsOf, Packed}
 use Rattle.lfs_pack.specs.Packing.{IsPacked}
 use Rattle.lfs_step.specs.declared.step.Step.{Step}
-use Rattle.lfs_step.specs.declared.step.Step.TheVariants.{Format, Pack, Ask, Forget, Change, Tree}
+use Rattle.lfs_step.specs.declared.step.Step.TheVariants.{Format, Pack, Ask, Forget, Adopt, Change, Tree}
 use Rattle.lfs_step.specs.TreeChanging.{ChangesTree}
 use Rattle.lfs_step.specs.Outcome.{Answers, Given, Refuses, given}
 
@@ -41,6 +43,12 @@ abbrev pub HasGoodRows : Step → Type 0
 HasGoodRows (Pack count limits rows) = (packed : List Packed) × AreRowsOf rows.now packed
 HasGoodRows _ = Unit {0}
 
+-- an image that is taken over begins a history, or no block of it changes, and the history stays
+abbrev pub GoesOver : History → History → Type 0
+GoesOver old new =
+    IsAdoptedImage old.present new.present
+    × ((new ≡ fresh_history new.present) ⊎ ((new ≡ old) × (changed_blocks old.present new.present ≡ [])))
+
 -- a new image begins a history, and has the root alone, or the map of its rows; a question leaves the history that was there, of which
 -- all but the image may be forgotten; and a change is steps of it
 abbrev pub GoesOn : ℕ → Step → History → History → Type 0
@@ -50,6 +58,7 @@ GoesOn size (Pack count limits rows) old new =
     × ((packed : List Packed) → AreRowsOf rows.now packed → IsPacked size count limits packed new.present.bytes)
 GoesOn size (Ask query form) old new = new ≡ old
 GoesOn size Forget old new = Forgets old new
+GoesOn size (Adopt form replaces) old new = GoesOver old new
 GoesOn size (Change steps) old new = TakesAll (map step_of steps.now) old new
 GoesOn size (Tree changing keep) old new = ChangesTree changing keep old new
 

@@ -1,7 +1,9 @@
 //! One step on the bytes of an image and its journal, and the texts that its questions are answered with.
 #![tactic(auto)]
 
+mod adopting;
 mod appending;
+mod changed_text;
 mod comparing;
 mod contents;
 mod course;

@@ -44,7 +44,7 @@ pub fn queried<S: Sink>(
 ) -> Outcome
     requires { S.failed out.old ≡ false }
     ensures answers { Answers (Ask query.entry form) (given size image.items journal.items) result }
-    ensures sent { SendsText (Ask query.entry form) (given size image.items journal.items) result.fault (S.sent out.old) (S.sent out.new) }
+    ensures sent { SendsText (Ask query.entry form) (given size image.items journal.items) result (S.sent out.old) (S.sent out.new) }
     ensures failed { S.failed out.new ≡ blames_output result.fault }
     ensures kept { S.kept out.new ≡ S.kept out.old }
     ensures status { result.status ≡ status_of result.fault }

@@ -16,6 +16,7 @@ ghost use Rattle.lfs_pack.specs.Packing.{IsPacked};
 ghost use Rattle.lfs_step.specs.Step.{IsStepInRange};
 ghost use Rattle.lfs_step.specs.declared.step.Step.TheVariants.{Format, Pack};
 
+use crate::adopting::taken_over;
 use crate::laws::steps_leave_histories;
 use crate::querying::queried;
 use crate::step::Step;
@@ -41,7 +42,7 @@ use std::alloc::Global;
 /// A step that changes the image is a list of steps on the history that image and journal denote, all of which are done or none; it
 /// answers those of the history that these leave, and the outcome says at which of them it is refused. A new image gets a journal without
 /// changes. What is asked leaves both files as they are; of such steps only the recount of changes reads the journal. New images read
-/// none, and forgetting none either.
+/// none, and forgetting none either. An image that is taken over gets a journal without changes if a block of it changes.
 ///
 /// Where the step makes a new image the caller owes limits that an image may have; and where it keeps a number of images of the past
 /// behind a command, that this is 1 to 1,000.
@@ -63,7 +64,7 @@ pub fn run<S: Sink>(
     ensures history { KeepsHistories step.entry (given size image.items journal.items) result }
     ensures equation { KeepsEquations step.entry (given size image.items journal.items) result }
     ensures growth { KeepsNeeds step.entry (given size image.items journal.items) result }
-    ensures sent { SendsText step.entry (given size image.items journal.items) result.fault (S.sent out.old) (S.sent out.new) }
+    ensures sent { SendsText step.entry (given size image.items journal.items) result (S.sent out.old) (S.sent out.new) }
     ensures failed { S.failed out.new ≡ blames_output result.fault }
     ensures kept { S.kept out.new ≡ S.kept out.old }
     ensures status { result.status ≡ status_of result.fault }
@@ -87,7 +88,7 @@ fn taken<S: Sink>(
     requires works { S.failed out.old ≡ false }
     requires range { IsStepInRange step }
     ensures answers { Answers step.entry (given size image.items journal.items) result }
-    ensures sent { SendsText step.entry (given size image.items journal.items) result.fault (S.sent out.old) (S.sent out.new) }
+    ensures sent { SendsText step.entry (given size image.items journal.items) result (S.sent out.old) (S.sent out.new) }
     ensures failed { S.failed out.new ≡ blames_output result.fault }
     ensures kept { S.kept out.new ≡ S.kept out.old }
     ensures status { result.status ≡ status_of result.fault }
@@ -101,6 +102,9 @@ fn taken<S: Sink>(
         } => packed(alloc, size, count, limits, rows, image, journal),
         Step::Ask { query, form } => queried(alloc, query, form, size, image, journal, out),
         Step::Forget => forgotten(alloc, size, image, journal),
+        Step::Adopt { form, replaces } => {
+            taken_over(alloc, form, replaces, size, image, journal, out)
+        }
         Step::Change(steps) => changed(alloc, steps, size, image, journal),
         Step::Tree { change, keep } => tree_changed(alloc, &change, keep, size, image, journal),
     }

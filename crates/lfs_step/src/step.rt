@@ -40,6 +40,13 @@ pub enum Step<'a> {
     },
     /// Keeps the image, and no change that led to it or was taken back.
     Forget,
+    /// Takes the image over as a device left it.
+    Adopt {
+        /// The form in which the blocks are answered that change.
+        form: Form,
+        /// Whether a journal with changes is replaced, which is refused else.
+        replaces: bool,
+    },
     /// Changes the image, or what is kept of its changes: steps on its history, one after another, all of them or none.
     Change(&'a [Move<'a>]),
     /// Changes the image by commands that follow from it, as one change.

@@ -12,7 +12,7 @@ pub struct Explanation {
 }
 
 /// The faults in the order of their numbers. docs/FAULTS.md has the same table.
-const EXPLANATIONS: [Explanation; 50] = [
+const EXPLANATIONS: [Explanation; 51] = [
     Explanation {
         number: 1,
         name: "ImageLength",
@@ -34,8 +34,8 @@ const EXPLANATIONS: [Explanation; 50] = [
         text: "Neither block of a pair that the thread names holds a commit whose checksum is right. The \
          image is damaged, or `--block` isn't its block size, or it begins at another place of the \
          file, which `find` lists, or a later littlefs wrote it: the second line says what its first \
-         block states of that. `--device` reads an image of disk version 2.1, and `repack --device` \
-         makes one of version 2.0 of it; 10 says what keeps a device at version 2.0.",
+         block states of that. `--device` reads an image of disk version 2.1, and `adopt` takes it \
+         over; 10 says what keeps a device at version 2.0.",
     },
     Explanation {
         number: 4,
@@ -71,18 +71,16 @@ const EXPLANATIONS: [Explanation; 50] = [
         name: "NoSuperblock",
         text: "The first entry of blocks 0 and 1 is no superblock. The file is no littlefs image, or \
          `--block` isn't its block size, or a device that ran long has expanded its superblock. \
-         `--device` reads such an image, and `repack --device` makes one with a single superblock of \
-         it.",
+         `--device` reads such an image, and `adopt` leaves it a single superblock.",
     },
     Explanation {
         number: 10,
         name: "Version",
         text: "The image is of another disk version than 2.0, or a device has changed it with one, as the \
-         second line says. `--device` reads version 2.1, and `repack --device` makes an image of \
-         version 2.0 of it; `--older` reads the state before such a change. Since 2.6 littlefs writes \
-         disk version 2.1, also into an image of 2.0. It keeps 2.0 where it is built with \
-         LFS_MULTIVERSION and `lfs_config.disk_version` is 0x00020000: build the device so, and write \
-         the image again.",
+         second line says. `--device` reads version 2.1, and `adopt` takes the image over in place; \
+         `--older` reads the state before such a change. Since 2.6 littlefs writes disk version 2.1, \
+         also into an image of 2.0. It keeps 2.0 where it is built with LFS_MULTIVERSION and \
+         `lfs_config.disk_version` is 0x00020000: build the device so, and write the image again.",
     },
     Explanation {
         number: 11,
@@ -113,8 +111,9 @@ const EXPLANATIONS: [Explanation; 50] = [
         number: 15,
         name: "BlockTwice",
         text: "Two things use one block, or two names lead to one directory. If a device was stopped while \
-         it moved a directory, `--device` reads the image. Otherwise it is damaged; nothing of it may be \
-         changed safely.",
+         it moved a directory, `--device` reads the image, and `adopt` ends the move. Otherwise a \
+         change of one thing destroys the other: `salvage` saves what it can, and a new image is made \
+         of that.",
     },
     Explanation {
         number: 16,
@@ -125,23 +124,23 @@ const EXPLANATIONS: [Explanation; 50] = [
         number: 17,
         name: "Orphan",
         text: "No path leads to a directory: a device was stopped while it made, removed or moved one, or \
-         moved one below itself, which littlefs allows. `--device` reads the image without it, `repack \
-         --device` makes an image of the rest, and `salvage` saves the directory too. If it is \
-         refused with `--device` too, it is damaged.",
+         moved one below itself, which littlefs allows. `--device` reads the image without it, and \
+         `adopt` drops it; `salvage` saves it before. If the image is refused with `--device` too, it \
+         is damaged.",
     },
     Explanation {
         number: 18,
         name: "UnfinishedMove",
         text: "A device was stopped while it moved something. `--device` reads that at its new place alone, \
-         and `repack --device` makes an image of that. If it is refused with `--device` too, it is damaged.",
+         and `adopt` ends the move. If it is refused with `--device` too, it is damaged.",
     },
     Explanation {
         number: 19,
         name: "SuperblockElsewhere",
         text: "A superblock stands after the first one: a device whose root is changed very often makes \
-         such a chain, unless `lfs_config.block_cycles` is -1. `--device` reads it, and `repack --device` \
-         makes an image with one superblock. If it is refused with `--device` too, it is damaged, or the \
-         attributes of `/` leave no room: read its files with littlefs, and `pack` them.",
+         such a chain, unless `lfs_config.block_cycles` is -1. `--device` reads it, and `adopt` \
+         leaves the image a single superblock. If it is refused with `--device` too, it is damaged, \
+         or the attributes of `/` leave no room: read its files with littlefs, and `pack` them.",
     },
     Explanation {
         number: 20,
@@ -289,6 +288,12 @@ const EXPLANATIONS: [Explanation; 50] = [
         name: "JournalFull",
         text: "As many changes were made as a journal keeps, 1000. `forget` drops them all; with `--keep` a command \
          keeps the latest alone.",
+    },
+    Explanation {
+        number: 56,
+        name: "JournalHasChanges",
+        text: "The journal has changes, and none of them leads to the image as the device left it: `adopt` \
+         begins a new journal. `--replace` drops them.",
     },
     Explanation {
         number: 60,

@@ -17,7 +17,10 @@ fn prints_rows(words: &[String]) -> bool
     ensures { IsTrue result → 2 < length words.now }
 {
     match words.get(2) {
-        Some(word) => matches!(word.as_str(), "check" | "ls" | "blocks" | "diff" | "log"),
+        Some(word) => matches!(
+            word.as_str(),
+            "check" | "ls" | "blocks" | "diff" | "log" | "adopt"
+        ),
         None => false,
     }
 }

@@ -1,4 +1,4 @@
-use Rattle.std.proofs.Common.{◌≡◌, ◌∙◌, ap, codes, refl, true}
+use Rattle.std.proofs.Common.{rules, ◌≡◌, ◌∙◌, ap, codes, refl, true}
 use Rattle.std.proofs.lemmas.Result.{IfErr-weaker, IfOk-weaker}
 use Rattle.clap.specs.Words.{found_of, rows_of}
 use Rattle.clap.proofs.WalkLemmas.{first_value-rows}
@@ -28,7 +28,7 @@ returns-in-batch-clause-some c = λ block. (
   c.in-batch.is,
   c.get_str.ensures ∙ first_value-rows (found_of c.args.options.now) (codes "script"),
   c.keep_of.ensures.kept,
-  c.said.ensures,
+  search rules,
 )
 
 pub returns-in-batch-clause-within : goal.returns-in-batch-clause-within
@@ -48,5 +48,5 @@ returns-in_default-clause-refused c = c.viewing_operation_of.ensures.refused
 pub returns-in_default-clause-unsaid : goal.returns-in_default-clause-unsaid
 returns-in_default-clause-unsaid c =
     let h = c.in_default in
-    IfErr-weaker c.viewing_operation_of.result _ _ (λ usage_error other names. (h.not-undo, h.not-redo, h.not-forget, h.not-batch, other names))
+    IfErr-weaker c.viewing_operation_of.result _ _ (λ usage_error other names. (h.not-undo, h.not-redo, h.not-forget, h.not-adopt, h.not-batch, other names))
     c.viewing_operation_of.ensures.unsaid

@@ -1,4 +1,4 @@
--- A step that changes the image, or recounts its changes, reads the journal that is found.
+-- A step that changes the image, takes it over or recounts its changes, reads the journal that is found.
 use Rattle.std.proofs.Common.{inl, inr}
 use Rattle.lfs_exchange.proofs.handing.journal_of.Goals as goal
 
@@ -6,12 +6,14 @@ pub returns-in-Changes-clause-journal : goal.returns-in-Changes-clause-journal
 returns-in-Changes-clause-journal g c =
     elim c.in-Changes.is [
       | inl changes ↦ rw changes c.find_journal.ensures.journal
-      | inr recounts ↦ rw recounts c.find_journal.ensures.journal
+      | inr (inl recounts) ↦ rw recounts c.find_journal.ensures.journal
+      | inr (inr adopts) ↦ rw adopts c.find_journal.ensures.journal
     ]
 
 pub returns-in-Changes-clause-refused : goal.returns-in-Changes-clause-refused
 returns-in-Changes-clause-refused g c =
     elim c.in-Changes.is [
       | inl changes ↦ rw changes c.find_journal.ensures.refused
-      | inr recounts ↦ rw recounts c.find_journal.ensures.refused
+      | inr (inl recounts) ↦ rw recounts c.find_journal.ensures.refused
+      | inr (inr adopts) ↦ rw adopts c.find_journal.ensures.refused
     ]

@@ -19,6 +19,9 @@ returns-in-Repack g c = rw c.in-Repack.is c.repacked.ensures
 pub returns-in-Forget : goal.returns-in-Forget
 returns-in-Forget g c = rw c.in-Forget.is c.forgotten.ensures
 
+pub returns-in-Adopt : goal.returns-in-Adopt
+returns-in-Adopt g c = rw c.in-Adopt.is c.adopted.ensures
+
 pub returns-in-Change : goal.returns-in-Change
 returns-in-Change g c = rw c.in-Change.is c.changed.ensures
 
