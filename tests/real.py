@@ -20,7 +20,7 @@ from support.counts import Counts
 from support.folder import HOME, PROGRAM
 from support.later import DeviceReader
 from support.random_steps import Model
-from support.real import NO_POWER, TIME, Device, Refused, pattern, real_littlefs, rows_of, sha256, times_of
+from support.real import NO_POWER, TIME, Device, Refused, fronts, pattern, real_littlefs, rows_of, sha256, shown, times_of
 
 LIVES = 40
 BLOCKS = 256, 512, 512, 1024, 4096
@@ -375,17 +375,6 @@ class Life:
         if found:
             shutil.copy(self.folder / self.name, self.folder / "again.img")
             self.take_over("again.img", found)
-
-
-def fronts(path):
-    """The paths above a path."""
-    names = path.split("/")
-    return ["/".join(names[:at]) or "/" for at in range(1, len(names))] if path != "/" else []
-
-
-def shown(model):
-    """What a device lists of a model's tree."""
-    return {path: ("d", 0, "") if held is None else ("f", len(held), sha256(held)) for path, (held, _) in model.tree.items()}
 
 
 def live(seed):

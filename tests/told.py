@@ -209,12 +209,21 @@ def numbers_of_bytes_are_told(folder):
     folder.image.with_name("config.json").unlink()
 
 
+def helping(words, first):
+    """What helps if a device left an image without an entry for a directory, and a command without `--device` refuses it."""
+    command = words.split(" ")[0]
+    if first != "17 Orphan" or command == "repack":
+        return ""
+    return f"lfsed: a.img: {'adopt takes it over' if command in ('log', 'mkdir', 'undo') else '--device reads it'}\n"
+
+
 def is_placed(folder, held, first, second, mounting=MOUNTING):
-    """Each command that mounts an image tells its fault, and where it is."""
+    """Each command that mounts an image tells its fault, where it is, and what helps."""
     folder.be(held, 0)
     for words in mounting:
         ended = folder.run(words)
-        folder.check(f"{second}: {words}", ended == (3, f"lfsed: {first}\nlfsed: a.img: {second}\n", b""), ended)
+        wanted = f"lfsed: {first}\nlfsed: a.img: {second}\n{helping(words, first)}"
+        folder.check(f"{second}: {words}", ended == (3, wanted, b""), ended)
 
 
 def places_of_faults_are_told(folder):

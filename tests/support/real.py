@@ -51,6 +51,17 @@ def times_of(attributes):
     return {path: int.from_bytes(value, "little") // 10**9 for path, value in held.items()}
 
 
+def fronts(path):
+    """The paths above a path."""
+    names = path.split("/")
+    return ["/".join(names[:at]) or "/" for at in range(1, len(names))] if path != "/" else []
+
+
+def shown(model):
+    """What a device lists of a model's tree."""
+    return {path: ("d", 0, "") if held is None else ("f", len(held), sha256(held)) for path, (held, _) in model.tree.items()}
+
+
 class Refused(Exception):
     """A call that littlefs refused, by the number of its error."""
 
