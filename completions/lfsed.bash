@@ -34,7 +34,7 @@ _lfsed() {
       esac
       return
       ;;
-    -b | --block | --count | --size | --name-max | --file-max | --attr-max | --from-block | --offset | --keep | --from | --steps) return ;;
+    -b | --block | --count | --size | --name-max | --file-max | --attr-max | --inline-max | --from-block | --offset | --keep | --from | --steps) return ;;
   esac
   case ${COMP_WORDS[1]} in
     format)
@@ -42,11 +42,11 @@ _lfsed() {
       words='IMAGE'
       ;;
     pack)
-      options='-b --block --count --size --least --name-max --file-max --attr-max --new -h --help'
+      options='-b --block --count --size --least --inline-max --name-max --file-max --attr-max --new -h --help'
       words='IMAGE DIR'
       ;;
     repack)
-      options='-b --block --from-block --count --size --least --name-max --file-max --attr-max --new --device --offset --older -h --help'
+      options='-b --block --from-block --count --size --least --inline-max --name-max --file-max --attr-max --new --device --offset --older -h --help'
       words='IMAGE SOURCE'
       ;;
     find)
@@ -90,7 +90,7 @@ _lfsed() {
       words='IMAGE PATH'
       ;;
     put)
-      options='-b --block --from -p --parents --keep -h --help'
+      options='-b --block --from -p --parents --inline-max --keep -h --help'
       words='IMAGE PATH'
       ;;
     rm)
@@ -114,7 +114,7 @@ _lfsed() {
       words='IMAGE COUNT'
       ;;
     sync)
-      options='-b --block --keep -h --help'
+      options='-b --block --inline-max --keep -h --help'
       words='IMAGE DIR PATH'
       ;;
     undo)
@@ -134,7 +134,7 @@ _lfsed() {
       words='IMAGE'
       ;;
     batch)
-      options='-b --block --one --keep -h --help'
+      options='-b --block --one --inline-max --keep -h --help'
       words='IMAGE FILE'
       ;;
     explain)
@@ -152,7 +152,7 @@ _lfsed() {
   esac
   for ((at = 2; at < COMP_CWORD; at++)); do
     case ${COMP_WORDS[at]} in
-      -b | --block | --count | --size | --name-max | --file-max | --attr-max | --from-block | --offset | --keep | --from | --steps)
+      -b | --block | --count | --size | --name-max | --file-max | --attr-max | --inline-max | --from-block | --offset | --keep | --from | --steps)
         named=${COMP_WORDS[at]} at=$((at + 1))
         if [ "${COMP_WORDS[at]}" = = ]; then
           at=$((at + 1))

@@ -6,7 +6,7 @@ function __lfsed_words
   set -l at 3
   while test $at -le (count $words)
     switch $words[$at]
-      case -b --block --count --size --name-max --file-max --attr-max --from-block --offset --keep --from --steps
+      case -b --block --count --size --name-max --file-max --attr-max --inline-max --from-block --offset --keep --from --steps
         set at (math $at + 1)
       case '-*'
       case '*'
@@ -77,6 +77,7 @@ complete -c lfsed -n '__fish_seen_subcommand_from pack' -s b -l block -x -d 'Siz
 complete -c lfsed -n '__fish_seen_subcommand_from pack' -l count -x -d 'Number of blocks, from 2 to 65536; at most 67108864 bytes in all'
 complete -c lfsed -n '__fish_seen_subcommand_from pack' -l size -x -d 'Size of the image, in place of the number of blocks: 1048576, 0x100000, 1024k or 1M'
 complete -c lfsed -n '__fish_seen_subcommand_from pack' -l least -d 'Give it the least number of blocks that holds the folder'
+complete -c lfsed -n '__fish_seen_subcommand_from pack' -l inline-max -x -d 'Greatest length in bytes of a file that stands in its entry; never more than 1022 or an eighth of a block'
 complete -c lfsed -n '__fish_seen_subcommand_from pack' -l name-max -x -d 'Greatest length of a name in bytes, from 1 to 1022 [default: 255]'
 complete -c lfsed -n '__fish_seen_subcommand_from pack' -l file-max -x -d 'Greatest length of a file in bytes, from 1 to 2147483647 [default: 2147483647]'
 complete -c lfsed -n '__fish_seen_subcommand_from pack' -l attr-max -x -d 'Greatest length of an attribute in bytes, from 1 to 1022 [default: 1022]'
@@ -89,6 +90,7 @@ complete -c lfsed -n '__fish_seen_subcommand_from repack' -l from-block -x -d 'S
 complete -c lfsed -n '__fish_seen_subcommand_from repack' -l count -x -d 'Number of blocks, from 2 to 65536; at most 67108864 bytes in all'
 complete -c lfsed -n '__fish_seen_subcommand_from repack' -l size -x -d 'Size of the image, in place of the number of blocks: 1048576, 0x100000, 1024k or 1M'
 complete -c lfsed -n '__fish_seen_subcommand_from repack' -l least -d 'Give it the least number of blocks that holds all of it'
+complete -c lfsed -n '__fish_seen_subcommand_from repack' -l inline-max -x -d 'Greatest length in bytes of a file that stands in its entry; never more than 1022 or an eighth of a block'
 complete -c lfsed -n '__fish_seen_subcommand_from repack' -l name-max -x -d 'Greatest length of a name in bytes, from 1 to 1022; that of SOURCE where it is not said'
 complete -c lfsed -n '__fish_seen_subcommand_from repack' -l file-max -x -d 'Greatest length of a file in bytes, from 1 to 2147483647; that of SOURCE where it is not said'
 complete -c lfsed -n '__fish_seen_subcommand_from repack' -l attr-max -x -d 'Greatest length of an attribute in bytes, from 1 to 1022; that of SOURCE where it is not said'
@@ -171,6 +173,7 @@ complete -c lfsed -n '__lfsed_at put 1' -a '(__lfsed_paths)'
 complete -c lfsed -n '__fish_seen_subcommand_from put' -s b -l block -x -d 'Size of a block, a multiple of 16 from 256 to 65536, or auto [default: 4096]'
 complete -c lfsed -n '__fish_seen_subcommand_from put' -l from -r -F -d 'File that the contents are read from, in place of standard input'
 complete -c lfsed -n '__fish_seen_subcommand_from put' -s p -l parents -d 'Make the directories above it too where they lack, as one change'
+complete -c lfsed -n '__fish_seen_subcommand_from put' -l inline-max -x -d 'Greatest length in bytes of a file that stands in its entry; never more than 1022 or an eighth of a block'
 complete -c lfsed -n '__fish_seen_subcommand_from put' -l keep -x -d 'Number of the latest changes that are kept, from 1 to 1000; all where it is not said'
 complete -c lfsed -n '__fish_seen_subcommand_from put' -s h -l help -d 'Print help'
 complete -c lfsed -n '__lfsed_at rm 0' -F
@@ -204,6 +207,7 @@ complete -c lfsed -n '__lfsed_at sync 0' -F
 complete -c lfsed -n '__lfsed_at sync 1' -a '(__fish_complete_directories)'
 complete -c lfsed -n '__lfsed_at sync 2' -a '(__lfsed_paths)'
 complete -c lfsed -n '__fish_seen_subcommand_from sync' -s b -l block -x -d 'Size of a block, a multiple of 16 from 256 to 65536, or auto [default: 4096]'
+complete -c lfsed -n '__fish_seen_subcommand_from sync' -l inline-max -x -d 'Greatest length in bytes of a file that stands in its entry; never more than 1022 or an eighth of a block'
 complete -c lfsed -n '__fish_seen_subcommand_from sync' -l keep -x -d 'Number of the latest changes that are kept, from 1 to 1000; all where it is not said'
 complete -c lfsed -n '__fish_seen_subcommand_from sync' -s h -l help -d 'Print help'
 complete -c lfsed -n '__lfsed_at undo 0' -F
@@ -229,6 +233,7 @@ complete -c lfsed -n '__lfsed_at batch 0' -F
 complete -c lfsed -n '__lfsed_at batch 1' -F
 complete -c lfsed -n '__fish_seen_subcommand_from batch' -s b -l block -x -d 'Size of a block, a multiple of 16 from 256 to 65536, or auto [default: 4096]'
 complete -c lfsed -n '__fish_seen_subcommand_from batch' -l one -d 'Make one change of all steps, which one undo takes back; undo, redo and forget are none of them'
+complete -c lfsed -n '__fish_seen_subcommand_from batch' -l inline-max -x -d 'Greatest length in bytes of a file that stands in its entry; never more than 1022 or an eighth of a block'
 complete -c lfsed -n '__fish_seen_subcommand_from batch' -l keep -x -d 'Number of the latest changes that are kept, from 1 to 1000; all where it is not said'
 complete -c lfsed -n '__fish_seen_subcommand_from batch' -s h -l help -d 'Print help'
 complete -c lfsed -n '__lfsed_at explain 0' -a '1 2 3 4 5 6 7 8 9 10 11 12 13 14 15 16 17 18 19 20 21 22 30 31 32 33 34 35 36 37 38 39 40 41 42 43 44 46 50 51 52 53 54 55 56 60 61 62 63 64 65 ImageLength BadGeometry NoValidCommit UnknownTag BadTag IncompleteEntry BadName BadSkipList NoSuperblock Version Geometry Limits OrderFault BlockRange BlockTwice MissingDirectory Orphan UnfinishedMove SuperblockElsewhere BadSize UnknownState DamagedCommit NotFound Exists NotADirectory IsADirectory NotEmpty BadPath NameTooLong FileTooLarge AttrTooLarge NoAttr IntoItself IsRoot EntryTooLarge NoSpace Memory BadCount JournalFormat JournalMismatch JournalImage NothingToUndo NothingToRedo JournalFull JournalHasChanges CannotRead CannotWrite HostEntry HostName BadHex BadLine'

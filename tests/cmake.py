@@ -19,6 +19,7 @@ find_package(lfsed 0.1 REQUIRED CONFIG NO_CMAKE_FIND_ROOT_PATH)
 lfsed_image(image ALL FOLDER fw OUTPUT images/fw.img BLOCK 512 COUNT 64)
 add_custom_target(pages COMMAND ${CMAKE_COMMAND} -E copy_if_different ${CMAKE_SOURCE_DIR}/page ${CMAKE_BINARY_DIR}/www/page)
 lfsed_image(www FOLDER ${CMAKE_BINARY_DIR}/www OUTPUT www.img BLOCK 256 LEAST NAME_MAX 30 CHANGES changes DEPENDS pages)
+lfsed_image(out FOLDER ${CMAKE_BINARY_DIR}/www OUTPUT out.img BLOCK 256 COUNT 16 INLINE_MAX 4 CHANGES changes DEPENDS pages)
 get_target_property(IMAGE image LFSED_IMAGE)
 add_custom_command(
   OUTPUT flash.bin
@@ -122,6 +123,9 @@ def has_generated_files(project):
         project.counts.check(f"{project.what}: www: {text}", held == [(0, text)] * 2, held)
     limit = image.read_bytes()[32:36]
     project.counts.check(f"{project.what}: www: name_max", limit == (30).to_bytes(4, "little"), limit)
+    project.ends_well("out", "cmake", "--build", "build", "--target", "out")
+    blocks = run(PROGRAM, "blocks", "--block", "256", project.place / "build/out.img")[1]
+    project.counts.check(f"{project.what}: INLINE_MAX", "/page" in blocks and "/id" in blocks, blocks)
 
 
 def is_refused(project):

@@ -12,11 +12,11 @@ from support.folder import HOME, PROGRAM
 
 SCRIPT = HOME / "share/lfsed/mklittlefs"
 SAID = "mklittlefs (lfsed): "
-NEEDED = "a device needs block_size {}, name_max {} or more, cache_size {} or more"
+NEEDED = "a device needs block_size {} and name_max {} or more; with cache_size {} or more it changes each file in place"
 # Words by which an image of the folder `data` is made, and what lfsed takes for them.
 CALLS = [
-    ("-c data -s 131072 -p 256 -b 4096 a.img", "--block 4096 --size 131072"),
-    ("-c data -p 256 -b 8192 -s 0x40000 a.img", "--block 8192 --size 0x40000"),
+    ("-c data -s 131072 -p 256 -b 4096 a.img", "--block 4096 --size 131072 --inline-max 256"),
+    ("-c data -p 2048 -b 8192 -s 0x40000 a.img", "--block 8192 --size 0x40000 --inline-max 2048"),
     ("-c data a.img", "--block 4096 --size 65536"),
     ("-d 5 a.img -b 512 -c data -s 64k", "--block 512 --size 64k"),
 ]
@@ -39,7 +39,7 @@ class Room:
         self.counts, self.place = counts, place
         (place / "data/www").mkdir(parents=True)
         (place / "data/config").write_text("wifi=on\n")
-        (place / "data/www/two words").write_text("hello")
+        (place / "data/www/two words").write_text("hello" * 60)
 
     def run(self, program, words, **env):
         """Runs a program; answers its status, what it prints and what it complains."""
@@ -64,8 +64,9 @@ def creates(room):
     for words, as_lfsed in CALLS:
         said = room.makes(words, as_lfsed).splitlines()
         block = int(as_lfsed.split(" ")[1])
-        ignored = [f"{SAID}ignored: {' '.join(pair)}" for pair in zip(words.split(), words.split()[1:]) if pair[0] in ("-p", "-d")]
-        room.counts.check(f"{words}: said", said == [*ignored, SAID + NEEDED.format(block, 32, min(block // 8, 1_022))], said)
+        most = int(as_lfsed.partition("--inline-max ")[2] or 1_022)
+        ignored = [f"{SAID}ignored: {' '.join(pair)}" for pair in zip(words.split(), words.split()[1:]) if pair[0] == "-d"]
+        room.counts.check(f"{words}: said", said == [*ignored, SAID + NEEDED.format(block, 32, min(most, block // 8, 1_022))], said)
     said = room.makes("-c data a.img", "--size 65536", 64, LFSED_NAME_MAX="64")
     room.counts.check("LFSED_NAME_MAX", "name_max 64" in said, said)
 

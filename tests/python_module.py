@@ -235,6 +235,25 @@ def other_calls(counts):
     counts.check("removed", [row.path for row in image.rows()] == ["/"])
 
 
+def bounds(counts):
+    """How long a file may be that stands in its entry: five bytes, or four, by each call that puts files."""
+    for most, taken in (5, 0), (4, 1):
+        image = lfsed.format("i.img", block=512, count=64)
+        image.inline_max = most
+        free = image.check().free
+        image.write("/a", b"hello")
+        with image.batch() as batch:
+            batch.write("/b", b"hello")
+        pathlib.Path("held").mkdir(exist_ok=True)
+        pathlib.Path("held/c").write_bytes(b"hello")
+        image.sync("held", "/d")
+        counts.check(f"inline_max {most}", free - image.check().free == 3 * taken + 2, image.check())
+        packed = lfsed.pack("j.img", "held", block=512, count=64, inline_max=most)
+        counts.check(f"pack, inline_max {most}", (62 - packed.check().free, packed.inline_max) == (taken, most), packed.check())
+        again = lfsed.repack("k.img", lfsed.pack("l.img", "held", block=512, count=64), block=512, inline_max=most)
+        counts.check(f"repack, inline_max {most}", 62 - again.check().free == taken, again.check())
+
+
 def views(counts):
     """An image in a larger file, as a device reads it; blocks of a size that is said or read."""
     image = lfsed.format("v.img", block=512, count=16)
@@ -293,6 +312,7 @@ def main():
         faults(counts)
         broken_off(counts)
         other_calls(counts)
+        bounds(counts)
         views(counts)
         for at in range(BATCHES):
             comes_back_from_batches(counts, chance, at)

@@ -28,7 +28,8 @@ class Image:
 
     With `device` it is read as a device reads it, so disk version 2.1 too; with `offset` it begins at that byte of the file, and is only
     read; with `older` the state before changes of a later version is read, and no command changes it. Changes keep the latest `keep` of
-    them, where that is said.
+    them, by default all. At most `inline_max` bytes of a file that is put stand in its directory entry, by default, and at most, an
+    eighth of a block and 1022: a device changes such a file in place only if its cache has at least the file's length.
 
     >>> image = format("a.img", block=512, count=16)
     >>> image.check().free
@@ -38,9 +39,10 @@ class Image:
     def __init__(
         self, path: File, block: Number = "auto", *,
         device: bool = False, offset: Optional[Number] = None, older: bool = False, keep: Optional[int] = None,
+        inline_max: Optional[int] = None,
     ):
         self.path, self.block = path, block
-        self.device, self.offset, self.older, self.keep = device, offset, older, keep
+        self.device, self.offset, self.older, self.keep, self.inline_max = device, offset, older, keep, inline_max
 
     def __repr__(self) -> str:
         return f"Image({os.fspath(self.path)!r}, block={self.block!r})"
@@ -110,7 +112,7 @@ class Image:
 
     def write(self, path: ImagePath, contents: bytes, *, parents: bool = False) -> None:
         """Puts a file, in place of one of this path; with `parents` the directories above it too."""
-        self._change("put", path, given=contents, parents=parents)
+        self._change("put", path, given=contents, parents=parents, inline_max=self.inline_max)
 
     def mkdir(self, path: ImagePath, *, parents: bool = False) -> None:
         """Makes a directory; with `parents` those above it too, and one that is there is no fault."""
@@ -222,7 +224,7 @@ class Image:
         >>> image.read("/www/index")
         b'hello'
         """
-        self._change("sync", folder, path)
+        self._change("sync", folder, path, inline_max=self.inline_max)
 
 
 class Batch:
@@ -243,7 +245,7 @@ class Batch:
         with room:
             if kind is None:
                 script = "".join(f"{line}\n" for line in self._lines)
-                self._image._change("batch", given=script.encode("ascii"), one=self._one)
+                self._image._change("batch", given=script.encode("ascii"), one=self._one, inline_max=self._image.inline_max)
 
     def _add(self, step: str, *words: Word) -> None:
         """Adds a step."""
@@ -299,18 +301,19 @@ def format(
 
 def pack(
     path: File, folder: File, *, block: int = 4096, count: Optional[int] = None, size: Optional[Number] = None, least: bool = False,
-    name_max: Optional[int] = None, file_max: Optional[int] = None, attr_max: Optional[int] = None, new: bool = False,
+    name_max: Optional[int] = None, file_max: Optional[int] = None, attr_max: Optional[int] = None, inline_max: Optional[int] = None,
+    new: bool = False,
 ) -> Image:
     """Writes a new image of a folder, of `count` blocks, of `size` bytes or with `least` of as few as hold it; answers it."""
-    limits = options(name_max=name_max, file_max=file_max, attr_max=attr_max, new=new)
+    limits = options(name_max=name_max, file_max=file_max, attr_max=attr_max, inline_max=inline_max, new=new)
     run("pack", options(block=block, count=count, size=size, least=least) + limits, [path, folder])
-    return Image(path, block)
+    return Image(path, block, inline_max=inline_max)
 
 
 def repack(
     path: File, source: Union[Image, File], *, block: int = 4096, count: Optional[int] = None, size: Optional[Number] = None,
     least: bool = False, name_max: Optional[int] = None, file_max: Optional[int] = None, attr_max: Optional[int] = None,
-    new: bool = False,
+    inline_max: Optional[int] = None, new: bool = False,
 ) -> Image:
     """Writes a new image with all that another one holds, by default of as many bytes; answers it.
 
@@ -320,7 +323,7 @@ def repack(
     2
     """
     of = source if isinstance(source, Image) else Image(source)
-    limits = options(name_max=name_max, file_max=file_max, attr_max=attr_max, new=new)
+    limits = options(name_max=name_max, file_max=file_max, attr_max=attr_max, inline_max=inline_max, new=new)
     view = options(from_block=of.block, device=of.device, offset=of.offset, older=of.older)
     run("repack", options(block=block, count=count, size=size, least=least) + limits + view, [path, of.path])
-    return Image(path, block)
+    return Image(path, block, inline_max=inline_max)

@@ -3,14 +3,15 @@ use Rattle.std.specs.Prelude.{ℕ, ◌<◌, ◌^◌, Bool, true, false, ◌≡�
 use Rattle.std.specs.Prelude.{option_map, ◌&&◌}
 use Rattle.std.specs.Borrow.{Bor}
 use Rattle.std.specs.List.{list_any}
-use Rattle.std.specs.Option.{option_map_or}
+use Rattle.std.specs.Option.{option_map_or, unwrap_or}
 use Rattle.std.specs.Str.{bytes_eq}
 use Rattle.std.specs.Str.Parse.{digits_value, without_leading_plus}
 use Rattle.clap.specs.Words.{Row, Rule, Text, all_of, first_of, one_of}
-use Rattle.lfs_grammar.specs.Grammar.{IsSaid, TakesNoImage, attr_max_or_source, file_max_or_source, keep, name_max_or_source}
+use Rattle.lfs_grammar.specs.Grammar.{IsSaid, TakesNoImage, attr_max_or_source, file_max_or_source, inline_max, keep, name_max_or_source}
 use Rattle.lfs_command.specs.declared.command.Command.{Command}
 use Rattle.lfs_command.specs.declared.command.Command.TheVariants.{Mkdir, Put, Rm, Mv, SetAttr, RmAttr, Grow}
 use Rattle.lfs_fs.specs.declared.limits.Limits.{Limits}
+use Rattle.lfs_fs.specs.Limits.{most_held}
 use Rattle.lfs_history.specs.declared.moves.Move.TheVariants as move
 use Rattle.lfs_history.specs.declared.moves.Move.TheVariants.{Do, Together, Undo, Redo}
 use Rattle.lfs_history.specs.declared.source.Source.{Source}
@@ -143,6 +144,10 @@ HasContents rows (File name) = HasText rows (codes "contents") name.now
 HasContents rows Input = HasNoText rows (codes "contents")
 HasContents rows (Said bytes) = ⊥
 
+-- the greatest length of a file that stands in its entry: that which is given, or the most that an entry holds
+abbrev pub IsMostSaid : ℕ → List Row → Type 0
+IsMostSaid most rows = (number : Option ℕ) × HasNumberIfSaid rows inline_max number × (most ≡ unwrap_or number most_held)
+
 -- the byte, or the bytes, whose hexadecimal digits an option's text is
 abbrev pub HasByte : List Row → Text → ℕ → Type 0
 HasByte rows id byte = (digits : Text) × HasText rows id digits × SpellsByte digits byte
@@ -153,8 +158,8 @@ HasBytes rows id bytes = (digits : Text) × HasText rows id digits × SpellsByte
 -- the command that a name and its options say on an image of this block size
 abbrev pub IsCommand : Command (Bor (List ℕ)) Source → Text → List Row → ℕ → Type 0
 IsCommand (Mkdir path) name rows block = (name ≡ codes "mkdir") × HasText rows (codes "path") path.now
-IsCommand (Put path source) name rows block =
-    (name ≡ codes "put") × HasText rows (codes "path") path.now × HasContents rows source
+IsCommand (Put path source most) name rows block =
+    (name ≡ codes "put") × HasText rows (codes "path") path.now × HasContents rows source × IsMostSaid most rows
 IsCommand (Rm path) name rows block = (name ≡ codes "rm") × HasText rows (codes "path") path.now
 IsCommand (Mv from to) name rows block =
     (name ≡ codes "mv") × HasText rows (codes "from") from.now × HasText rows (codes "to") to.now
@@ -183,8 +188,10 @@ HasPathOrRoot rows path = HasText rows (codes "path") path ⊎ (HasNoText rows (
 abbrev pub IsTreeChange : TreeChange Source (Bor (List ℕ)) → Text → List Row → Type 0
 IsTreeChange (tree.Remove path) name rows = (name ≡ codes "rm") × HasText rows (codes "path") path.now
 IsTreeChange (tree.Make path) name rows = (name ≡ codes "mkdir") × HasText rows (codes "path") path.now
-IsTreeChange (tree.Put path source) name rows = (name ≡ codes "put") × HasText rows (codes "path") path.now × HasContents rows source
-IsTreeChange (tree.Sync path dir) name rows = (name ≡ codes "sync") × HasPathOrRoot rows path.now × HasText rows (codes "dir") dir.now
+IsTreeChange (tree.Put path source most) name rows =
+    (name ≡ codes "put") × HasText rows (codes "path") path.now × HasContents rows source × IsMostSaid most rows
+IsTreeChange (tree.Sync path dir most) name rows =
+    (name ≡ codes "sync") × HasPathOrRoot rows path.now × HasText rows (codes "dir") dir.now × IsMostSaid most rows
 
 -- how many images of the past are kept behind a command: as many as are said, or all where no number is
 abbrev pub IsKeepSaid : Option ℕ → List Row → Type 0
@@ -208,10 +215,11 @@ form_said rows = if is_flagged (codes "json") rows then form.Json else form.Text
 -- the operation that a name and its options ask for on an image of this block size, where another image has blocks of the second one
 abbrev pub IsOperation : Operation → Text → List Row → ℕ → ℕ → Type 0
 IsOperation (Format count limits) name rows block other = (name ≡ codes "format") × SaysCount rows block count × SaysNewLimits rows limits
-IsOperation (Pack extent limits dir) name rows block other =
-    (name ≡ codes "pack") × SaysExtent rows block extent × SaysNewLimits rows limits × HasText rows (codes "dir") dir.now
-IsOperation (Repack source extent limits) name rows block other =
+IsOperation (Pack extent limits dir most) name rows block other =
+    (name ≡ codes "pack") × SaysExtent rows block extent × SaysNewLimits rows limits × HasText rows (codes "dir") dir.now × IsMostSaid most rows
+IsOperation (Repack source extent limits most) name rows block other =
     (name ≡ codes "repack") × IsSource source rows other × SaysExtentIfSaid rows block extent × SaysLimitsIfSaid rows limits
+    × IsMostSaid most rows
 IsOperation (Extract dir path view) name rows block other =
     (name ≡ codes "extract") × HasText rows (codes "dir") dir.now × HasPathOrRoot rows path.now × IsView view rows
 IsOperation (Salvage dir view) name rows block other = (name ≡ codes "salvage") × HasText rows (codes "dir") dir.now × IsView view rows
@@ -226,9 +234,9 @@ IsOperation (Change (Undo steps)) name rows block other = (name ≡ codes "undo"
 IsOperation (Change (Redo steps)) name rows block other = (name ≡ codes "redo") × HasNumber rows (codes "steps") steps
 IsOperation (Change move.Forget) name rows block other = ⊥
 IsOperation (Change (Together commands kept)) name rows block other = ⊥
-IsOperation (Batch file kept one) name rows block other =
-    (name ≡ codes "batch") × (option_map (λ f. f.now) file ≡ first_of (codes "script") rows) × IsKeepSaid kept rows
-    × (one ≡ is_flagged (codes "one") rows)
+IsOperation (Batch file terms one) name rows block other =
+    (name ≡ codes "batch") × (option_map (λ f. f.now) file ≡ first_of (codes "script") rows) × IsKeepSaid terms.keep rows
+    × IsMostSaid terms.most rows × (one ≡ is_flagged (codes "one") rows)
 
 -- the request that a command and its options ask for, where `auto` stands for these block sizes
 abbrev pub IsRequest : Request → Text → List Row → AutoSizes → Type 0

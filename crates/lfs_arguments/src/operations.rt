@@ -5,7 +5,7 @@ ghost use Rattle.clap.specs.Words.{Text, found_of, rows_of};
 ghost use Rattle.lfs_grammar.specs.Grammar.{NamesCommand, TakesNoImage, is_change};
 ghost use Rattle.lfs_history.specs.Taking.{MayKeep};
 ghost use Rattle.lfs_request.specs.Operation.{IsOperationInRange};
-ghost use Rattle.lfs_arguments.specs.Words.{HasContents, IsCommand, IsCommandUsageError, IsKeepSaid, IsManner, IsOffsetUsageError, IsQuery, IsSizeUsageError, IsOperation, IsView, is_command};
+ghost use Rattle.lfs_arguments.specs.Words.{HasContents, IsCommand, IsCommandUsageError, IsKeepSaid, IsManner, IsMostSaid, IsOffsetUsageError, IsQuery, IsSizeUsageError, IsOperation, IsView, is_command};
 ghost use Rattle.lfs_arguments.specs.Words.{HasPathOrRoot, IsNoPast, IsNoTreeCommand, IsNoViewing, IsTreeChange, form_said, is_of_tree, is_other, is_question};
 ghost use Rattle.lfs_arguments.specs.declared.usage_error.UsageError.TheVariants.{Memory, Unsaid};
 
@@ -16,8 +16,8 @@ use crate::usage_error::{FORMAT, GROW, PACK, UsageError};
 use crate::viewing::view_of;
 use clap::ArgMatches;
 use lfs_command::Command;
-use lfs_fs::VERSION;
-use lfs_history::{Move, Source};
+use lfs_fs::{MOST_HELD, VERSION};
+use lfs_history::{Move, Source, Terms};
 use lfs_json::Form;
 use lfs_request::{Manner, Operation, Query, SourceImage, TreeChange, View};
 use std::alloc::Global;
@@ -91,6 +91,7 @@ fn tree_command_of<'a>(
         "put" => Ok(Command::Put {
             path: bytes(options, "path")?,
             bytes: contents_of(options),
+            most: most_of(options),
         }),
         "rm" => Ok(Command::Rm {
             path: bytes(options, "path")?,
@@ -172,6 +173,13 @@ fn path_or_root<'a>(options: &ArgMatches<'a>) -> &'a [u8]
     }
 }
 
+/// The greatest length of a file that stands in its entry: by default the most that an entry holds.
+fn most_of(options: &ArgMatches<'_>) -> u32
+    ensures { IsMostSaid result (rows_of (found_of options.now)) }
+{
+    number_if_said(options, "inline-max").unwrap_or(MOST_HELD)
+}
+
 /// The change of a whole tree that words say.
 fn tree_change_of<'a>(
     name: &str,
@@ -192,10 +200,12 @@ fn tree_change_of<'a>(
         "put" => Ok(TreeChange::Put {
             path: bytes(options, "path")?,
             bytes: contents_of(options),
+            most: most_of(options),
         }),
         _ => Ok(TreeChange::Sync {
             path: path_or_root(options),
             rows: text(options, "dir")?,
+            most: most_of(options),
         }),
     }
 }
@@ -229,6 +239,7 @@ fn repack_of<'a>(
         },
         extent: extent_if_said(options, block)?,
         limits: limits_if_said(options),
+        most: most_of(options),
     })
 }
 
@@ -301,7 +312,10 @@ fn past_operation_of<'a>(
         }),
         "batch" => Ok(Operation::Batch {
             file: options.get_str("script"),
-            keep: keep_of(options),
+            terms: Terms {
+                keep: keep_of(options),
+                most: most_of(options),
+            },
             one: said(options, "one"),
         }),
         _ => viewing_operation_of(name, options, other, view),
@@ -333,6 +347,7 @@ fn other_operation_of<'a>(
             extent: extent_of(options, block, PACK)?,
             limits: limits_of(options)?,
             dir: text(options, "dir")?,
+            most: most_of(options),
         }),
         "repack" => repack_of(options, block, other),
         _ => past_operation_of(name, options, other, view),

@@ -3,13 +3,14 @@
 use crate::images::new_image;
 use lfs_block::{Image, Patch};
 use lfs_edit::{Asked, Command, plan};
-use lfs_fs::mount;
+use lfs_fs::{MOST_HELD, mount};
 use std::alloc::Global;
 
 // a file that takes one block beside its entry
 const PUT: Asked<'static> = Command::Put {
     path: b"/a",
     bytes: &[7; 65],
+    most: MOST_HELD,
 };
 
 // whether a patch writes just these blocks

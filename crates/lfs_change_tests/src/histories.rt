@@ -7,6 +7,7 @@ ghost use Rattle.lfs_history.specs.Taking.{KeepsInRange};
 use crate::images::{fresh, has_image, new_image, new_session, replies};
 use lfs_block::Image;
 use lfs_edit::{Asked, Command, Refusal};
+use lfs_fs::MOST_HELD;
 use lfs_session::{Move, Session, StepFault, Stopped, run_steps};
 use std::alloc::Global;
 
@@ -129,6 +130,7 @@ const LIST: [Asked<'static>; 7] = [
     Command::Put {
         path: b"/a/x",
         bytes: &[7; 65],
+        most: MOST_HELD,
     },
     Command::Rm { path: b"/a" },
     Command::SetAttr {
@@ -144,6 +146,7 @@ const LIST: [Asked<'static>; 7] = [
     Command::Put {
         path: b"/y",
         bytes: &[8; 3],
+        most: MOST_HELD,
     },
 ];
 
@@ -210,6 +213,7 @@ const MAKE: Asked<'static> = Command::Mkdir { path: b"/a" };
 const FILL: Asked<'static> = Command::Put {
     path: b"/a/x",
     bytes: &[7; 65],
+    most: MOST_HELD,
 };
 
 // sets an attribute of the file

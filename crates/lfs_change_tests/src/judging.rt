@@ -6,7 +6,7 @@ use crate::images::{carries_out, new_session};
 use lfs_block::Image;
 use lfs_command::{Asked, Command, Refusal, by_names};
 use lfs_draft::{judge, leading_pair};
-use lfs_fs::{Outline, mount, outlines_are_sound};
+use lfs_fs::{MOST_HELD, Outline, mount, outlines_are_sound};
 use lfs_session::Session;
 use std::alloc::Global;
 
@@ -16,6 +16,7 @@ const MADE: [Asked<'static>; 2] = [
     Command::Put {
         path: b"/a/x",
         bytes: b"hello",
+        most: MOST_HELD,
     },
 ];
 

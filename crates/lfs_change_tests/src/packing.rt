@@ -2,7 +2,7 @@
 
 use lfs_block::{Image, geometry_ok};
 use lfs_edit::Refusal;
-use lfs_fs::{Limits, Mounted, NEW_LIMITS, mount};
+use lfs_fs::{Limits, MOST_HELD, Mounted, NEW_LIMITS, mount};
 use lfs_host::Out;
 use lfs_json::Form;
 use lfs_listing::send_listing;
@@ -28,6 +28,7 @@ pub(crate) fn rows(attributes: &[(u8, Vec<u8>)]) -> [PackRow<'_>; 3] {
     let root = PackRow {
         path: b"/",
         bytes: None,
+        most: MOST_HELD,
         attributes: &[],
     };
     let directory = PackRow {
@@ -37,6 +38,7 @@ pub(crate) fn rows(attributes: &[(u8, Vec<u8>)]) -> [PackRow<'_>; 3] {
     let file = PackRow {
         path: b"/d/f",
         bytes: Some(&[7; 65]),
+        most: MOST_HELD,
         attributes,
     };
     [root, directory, file]
@@ -160,6 +162,7 @@ fn root_is_packed(alloc: Global) -> bool {
     let root = PackRow {
         path: b"/",
         bytes: None,
+        most: MOST_HELD,
         attributes: &attributes,
     };
     are_packed(alloc, 2, &[root], 0, "d          - /\n@ 74 01\n")

@@ -2,7 +2,7 @@
 
 use crate::packing::{attributes, rows};
 use lfs_block::{Image, geometry_ok};
-use lfs_fs::mount;
+use lfs_fs::{MOST_HELD, mount};
 use lfs_pack::{PackRow, pack, pack_rows, source_rows};
 use std::alloc::Global;
 
@@ -18,7 +18,7 @@ fn packed(alloc: Global, rows: &[PackRow<'_>]) -> Option<Vec<u8>> {
 fn packed_again(alloc: Global, image: &Image) -> Option<Vec<u8>> {
     let mounted = mount(alloc, image).ok()?;
     let copied = source_rows(alloc, image, &mounted).ok()?;
-    let rows = pack_rows(alloc, &copied).ok()?;
+    let rows = pack_rows(alloc, &copied, MOST_HELD).ok()?;
     packed(alloc, &rows)
 }
 

@@ -3,7 +3,7 @@
 use crate::packing::{attributes, rows};
 use lfs_block::{Image, geometry_ok};
 use lfs_command::{Asked, Command};
-use lfs_fs::{Mounted, mount};
+use lfs_fs::{MOST_HELD, Mounted, mount};
 use lfs_meta::names_are_decided;
 use lfs_pack::pack;
 use lfs_sync::{Planned, SyncRow, commands_of, make_plan, put_plan, remove_plan, sync_plan};
@@ -24,7 +24,7 @@ fn append_command(text: &mut Vec<u8>, command: &Asked<'_>) -> Result<(), AllocEr
     let (word, path, bytes): (&[u8], &[u8], &[u8]) = match *command {
         Command::Rm { path } => (b"rm ", path, b""),
         Command::Mkdir { path } => (b"mkdir ", path, b""),
-        Command::Put { path, bytes } => (b"put ", path, bytes),
+        Command::Put { path, bytes, .. } => (b"put ", path, bytes),
         _ => (b"other ", b"", b""),
     };
     text.extend_from_slice(word)?;
@@ -37,7 +37,7 @@ fn append_command(text: &mut Vec<u8>, command: &Asked<'_>) -> Result<(), AllocEr
 // what the commands of a plan do
 fn told(alloc: Global, plan: &[Planned], rows: &[SyncRow<'_>]) -> Result<Vec<u8>, AllocError> {
     let mut text = Vec::new(alloc);
-    for command in &commands_of(alloc, plan, rows)? {
+    for command in &commands_of(alloc, plan, rows, MOST_HELD)? {
         append_command(&mut text, command)?;
     }
     Ok(text)

@@ -68,11 +68,11 @@ two_files_fill_the_root : (superblock_weight [] ≡ 40) × (sum_by weight (file 
     × (room (full_root 4) ≡ 216)
 two_files_fill_the_root = (refl, refl, refl)
 
-one_more_file_needs_four_blocks : verdict (full_root 4) (Put (letters_b 130 ∷ []) []) ≡ Some (NoSpace 4 2)
+one_more_file_needs_four_blocks : verdict (full_root 4) (Put (letters_b 130 ∷ []) [] 1022) ≡ Some (NoSpace 4 2)
 unfolding place link_parts runs_after onto
 one_more_file_needs_four_blocks = refl
 
-four_free_blocks_are_enough : verdict (full_root 6) (Put (letters_b 130 ∷ []) []) ≡ None
+four_free_blocks_are_enough : verdict (full_root 6) (Put (letters_b 130 ∷ []) [] 1022) ≡ None
 unfolding place link_parts runs_after onto
 four_free_blocks_are_enough = refl
 
@@ -163,7 +163,7 @@ emptied_part_is_free_after_a_move = refl
 abbrev crowded_root : Volume
 crowded_root = volume 65536 8 (directory (0, 1) (map (λ n. file (n ∷ [])) (range_with_len 1 999)) ∷ [])
 
-one_entry_more_needs_two_blocks : need crowded_root (Put ((2000 ∷ []) ∷ []) []) ≡ 2
+one_entry_more_needs_two_blocks : need crowded_root (Put ((2000 ∷ []) ∷ []) [] 1022) ≡ 2
 unfolding place link_parts runs_after onto
 one_entry_more_needs_two_blocks = refl
 

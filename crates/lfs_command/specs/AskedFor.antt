@@ -9,7 +9,7 @@ use Rattle.lfs_command.specs.declared.command.Command.TheVariants as case
 -- the command that is written, its paths and its bytes read by two maps
 abbrev pub command_by : {P B Q : Type 0} → (P → Q) → (B → List ℕ) → Written P B → CommandOn Q
 command_by f g (case.Mkdir path) = Mkdir (f path)
-command_by f g (case.Put path bytes) = Put (f path) (g bytes)
+command_by f g (case.Put path bytes most) = Put (f path) (g bytes) most
 command_by f g (case.Rm path) = Rm (f path)
 command_by f g (case.Mv from to) = Mv (f from) (f to)
 command_by f g (case.SetAttr path kind value) = SetAttr (f path) kind (g value)
@@ -17,14 +17,14 @@ command_by f g (case.RmAttr path kind) = RmAttr (f path) kind
 command_by f g (case.Grow count) = Grow count
 
 -- the command that makes a file of these contents, or a directory where there are none
-abbrev pub making_said : {P B : Type 0} → P → Option B → Written P B
-making_said path (Some bytes) = case.Put path bytes
-making_said path None = case.Mkdir path
+abbrev pub making_said : {P B : Type 0} → P → Option B → ℕ → Written P B
+making_said path (Some bytes) most = case.Put path bytes most
+making_said path None most = case.Mkdir path
 
 -- the path that it is about, of a move the one that is left
 abbrev pub path_said : {P B : Type 0} → Written P B → Option P
 path_said (case.Mkdir path) = Some path
-path_said (case.Put path bytes) = Some path
+path_said (case.Put path bytes most) = Some path
 path_said (case.Rm path) = Some path
 path_said (case.Mv from to) = Some from
 path_said (case.SetAttr path kind value) = Some path
@@ -55,5 +55,5 @@ named_command command =
 
 -- the length of the contents that are put
 abbrev pub contents_len : OnNames → ℕ
-contents_len (case.Put path bytes) = length bytes.now
+contents_len (case.Put path bytes most) = length bytes.now
 contents_len command = 0

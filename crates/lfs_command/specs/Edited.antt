@@ -90,7 +90,7 @@ set_count n v = record {
 -- the volume after a command
 abbrev pub edited : Volume → Command → Supplies → Volume
 edited v (Mkdir p) s = make_directory v s.pair (parent_of v p)
-edited v (Put p bytes) s = put_file v (new_body v s bytes) (parent_of v p) (entry_at v p)
+edited v (Put p bytes most) s = put_file v (new_body v s bytes most) (parent_of v p) (entry_at v p)
 edited v (Rm p) s = remove_entry v (parent_of v p) (entry_at v p)
 edited v (Mv p q) s = move_entry v (parent_of v p) (parent_of v q) (entry_at v p)
 edited v (SetAttr p k value) s = set_attributes v (set_attribute k value) (parent_of v p)

@@ -25,7 +25,7 @@ attributes_at (Some x) = attributes_of x
 -- the tree after a command: a file put keeps its attributes, and a move takes all that is below along
 abbrev pub equation : Command → (Path → Option Node) → Path → Option Node
 equation (Mkdir p) tree = put_at_path p (Some (Dir [])) tree
-equation (Put p bytes) tree = put_at_path p (Some (File bytes (attributes_at (tree p)))) tree
+equation (Put p bytes most) tree = put_at_path p (Some (File bytes (attributes_at (tree p)))) tree
 equation (Rm p) tree = put_at_path p None tree
 equation (Mv p q) tree = moved p q tree
 equation (SetAttr p k value) tree = put_at_path p (option_map (with_attributes (set_attribute k value)) (tree p)) tree

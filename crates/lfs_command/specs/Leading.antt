@@ -13,7 +13,7 @@ use Rattle.lfs_command.specs.Parent.{parent_of}
 -- the path of a command; of a move the one from which; where there is none, the root's
 abbrev pub path_of : Command → Path
 path_of (Mkdir p) = p
-path_of (Put p bytes) = p
+path_of (Put p bytes most) = p
 path_of (Rm p) = p
 path_of (Mv p q) = p
 path_of (SetAttr p k value) = p

@@ -7,7 +7,7 @@ use Rattle.lfs_fs.specs.Directory.{Part, thread}
 use Rattle.lfs_fs.specs.Uses.{uses}
 use Rattle.lfs_fs.specs.Volume.{Volume}
 use Rattle.lfs_command.specs.Command.{Command, Mkdir, Put, Rm, Mv, SetAttr, RmAttr, Grow}
-use Rattle.lfs_command.specs.Supplies.{nothing, most_inline}
+use Rattle.lfs_command.specs.Supplies.{nothing, inline_limit}
 use Rattle.lfs_command.specs.Edited.{edited}
 use Rattle.lfs_command.specs.Cut.{runs}
 
@@ -26,7 +26,7 @@ changed_parts v w = filter (λ p. p.dirty && not (is_new_to v p.pair)) (thread w
 -- the blocks of the contents, where they don't stand in the entry
 abbrev pub data_blocks : Volume → Command → ℕ
 data_blocks v (Mkdir p) = 0
-data_blocks v (Put p bytes) = if nat_le (length bytes) (most_inline v.size) then 0 else least_blocks v.size (length bytes)
+data_blocks v (Put p bytes most) = if nat_le (length bytes) (inline_limit v.size most) then 0 else least_blocks v.size (length bytes)
 data_blocks v (Rm p) = 0
 data_blocks v (Mv p q) = 0
 data_blocks v (SetAttr p k value) = 0
@@ -36,7 +36,7 @@ data_blocks v (Grow n) = 0
 -- the blocks of a new directory
 abbrev pub directory_blocks : Command → ℕ
 directory_blocks (Mkdir p) = 2
-directory_blocks (Put p bytes) = 0
+directory_blocks (Put p bytes most) = 0
 directory_blocks (Rm p) = 0
 directory_blocks (Mv p q) = 0
 directory_blocks (SetAttr p k value) = 0

@@ -17,7 +17,7 @@ use Rattle.lfs_command.specs.Need.{is_new_to}
 
 -- what a command writes even where it stays the same: the struct of the file that is put, the value that is set
 abbrev pub forced_by : Command → Forced
-forced_by (Put p bytes) = Struct (last_name p)
+forced_by (Put p bytes most) = Struct (last_name p)
 forced_by (SetAttr p k value) = Value (last_name p) k
 forced_by _ = Nothing
 

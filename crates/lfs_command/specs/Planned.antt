@@ -16,7 +16,7 @@ use Rattle.lfs_command.specs.declared.refusal.Refusal.{Refusal}
 use Rattle.lfs_command.specs.declared.refusal.Refusal.TheVariants.{BadPath, Memory}
 use Rattle.lfs_command.specs.Command.{Command, Asked, Spells, SpellsNone, Put}
 use Rattle.lfs_command.specs.Growth.{count_after, grown}
-use Rattle.lfs_command.specs.Supplies.{Supplies, most_inline, supply_uses}
+use Rattle.lfs_command.specs.Supplies.{Supplies, inline_limit, supply_uses}
 use Rattle.lfs_command.specs.Edited.{edited}
 use Rattle.lfs_command.specs.Cut.{cut, new_pair_uses}
 use Rattle.lfs_command.specs.Need.{need, data_blocks, is_new_to, changed_parts}
@@ -50,7 +50,7 @@ FillsNewPairs v w d = (p : Part) → Contains (thread w.directories) p → p.dir
 
 -- where a command puts a file's contents into blocks, an image has in these what is laid there: all is erased behind the contents
 abbrev pub HasLaid : Volume → Command → Supplies → Disk → Type 0
-HasLaid v (Put p bytes) s d = nat_le (length bytes) (most_inline v.size) ≡ false → map (block_of d) s.blocks ≡ laid d.size bytes s.blocks
+HasLaid v (Put p bytes most) s d = nat_le (length bytes) (inline_limit v.size most) ≡ false → map (block_of d) s.blocks ≡ laid d.size bytes s.blocks
 HasLaid v _ s d = Unit {0}
 
 -- An accepted command takes the least free blocks of a volume in order, and leaves another one.

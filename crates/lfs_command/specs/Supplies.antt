@@ -21,14 +21,18 @@ nothing = record { blocks = []; pair = (0, 0) }
 abbrev pub most_inline : ℕ → ℕ
 most_inline size = if nat_le (size / 8) most_held then size / 8 else most_held
 
+-- the same, if a command gives a bound
+abbrev pub inline_limit : ℕ → ℕ → ℕ
+inline_limit size most = if nat_le (most_inline size) most then most_inline size else most
+
 -- where a file's contents are put
-abbrev pub new_body : Volume → Supplies → List ℕ → Body
-new_body v s bytes = if nat_le (length bytes) (most_inline v.size) then Inline bytes else Chain s.blocks bytes
+abbrev pub new_body : Volume → Supplies → List ℕ → ℕ → Body
+new_body v s bytes most = if nat_le (length bytes) (inline_limit v.size most) then Inline bytes else Chain s.blocks bytes
 
 -- how often the supplies of a command use a block
 abbrev pub supply_uses : Volume → Command → Supplies → ℕ → ℕ
 supply_uses v (Mkdir p) s b = times b (s.pair.0 ∷ s.pair.1 ∷ [])
-supply_uses v (Put p bytes) s b = body_uses b (new_body v s bytes)
+supply_uses v (Put p bytes most) s b = body_uses b (new_body v s bytes most)
 supply_uses v (Rm p) s b = 0
 supply_uses v (Mv p q) s b = 0
 supply_uses v (SetAttr p k value) s b = 0

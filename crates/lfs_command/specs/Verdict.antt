@@ -85,7 +85,7 @@ checks v (Mkdir p) =
     ∷ refuse_if (is_some (tree v p)) Exists
     ∷ refuse_if (nat_lt v.limits.name (last_length p)) NameTooLong
     ∷ []
-checks v (Put p bytes) =
+checks v (Put p bytes most) =
     refuse_if (is_root p) IsRoot
     ∷ walk_refusal (tree v) [] p
     ∷ refuse_if (is_directory (tree v p)) IsADirectory

@@ -14,6 +14,8 @@ pub enum Command<P, B> {
         path: P,
         /// The contents.
         bytes: B,
+        /// The greatest length with which they stand in the file's entry, which `most_inline` limits too; longer contents get blocks.
+        most: u32,
     },
     /// Removes a file or an empty directory.
     Rm {
@@ -61,12 +63,13 @@ impl<P, B> Command<P, B> {
     ghost use Rattle.std.specs.Option.{option_map};
     ghost use Rattle.lfs_command.specs.AskedFor.{making_said, path_said, target_said};
 
-    /// The command that makes a file of these contents, or a directory where there are none.
-    pub fn making(path: P, bytes: Option<B>) -> Command<P, B>
-        ensures { result ≡ making_said path bytes }
+    /// The command that makes a file of these contents, which stand in its entry if they are no longer than `most`, or a directory if there
+    /// are none.
+    pub fn making(path: P, bytes: Option<B>, most: u32) -> Command<P, B>
+        ensures { result ≡ making_said path bytes most }
     {
         match bytes {
-            Some(bytes) => Command::Put { path, bytes },
+            Some(bytes) => Command::Put { path, bytes, most },
             None => Command::Mkdir { path },
         }
     }

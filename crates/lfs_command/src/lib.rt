@@ -12,7 +12,7 @@ mod paths;
 mod refusal;
 
 pub use command::{Asked, Command, Named};
-pub use contents_blocks::most_inline;
+pub use contents_blocks::{inline_limit, most_inline};
 pub use forcing::forced_by;
 pub use growth::count_after;
 pub use made_blocks::{data_blocks, directory_blocks};

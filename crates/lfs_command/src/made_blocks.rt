@@ -16,7 +16,7 @@ pub fn data_blocks(size: u32, command: &Named<'_>) -> u32
     ensures { (v : Volume) → v.size ≡ size → result ≡ data_blocks v (named_command command.now) }
 {
     match command {
-        Command::Put { bytes, .. } => data_count(size, bytes.len()),
+        Command::Put { bytes, most, .. } => data_count(size, bytes.len(), *most),
         _ => 0,
     }
 }

@@ -21,9 +21,9 @@ pub fn by_names<'a>(alloc: Global, command: &Asked<'a>) -> Result<Named<'a>, Ref
             let path = names_of(alloc, path)?;
             Ok(Command::Mkdir { path })
         }
-        Command::Put { path, bytes } => {
+        Command::Put { path, bytes, most } => {
             let path = names_of(alloc, path)?;
-            Ok(Command::Put { path, bytes })
+            Ok(Command::Put { path, bytes, most })
         }
         Command::Rm { path } => {
             let path = names_of(alloc, path)?;

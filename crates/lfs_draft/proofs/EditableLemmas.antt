@@ -90,9 +90,9 @@ entry_short o sound k n e is =
     omega (arith, same, proper.name_fits)
 
 -- a file's name is within the limits: it is there, or was checked
-pub put_short : (o : Volume) (p : Path) (bytes : List ℕ) (h : Pair × Name) → IsEditable o (Put p bytes) → parent_of o p ≡ Some h
+pub put_short : (o : Volume) (p : Path) (bytes : List ℕ) (most : ℕ) (h : Pair × Name) → IsEditable o (Put p bytes most) → parent_of o p ≡ Some h
     → length h.1 < 1023
-put_short o p bytes h editable is = by (entry_at o p) refl
+put_short o p bytes most h editable is = by (entry_at o p) refl
   where
     passed : (is_none (tree o p) && nat_lt o.limits.name (last_length p)) ≡ false
     passed =

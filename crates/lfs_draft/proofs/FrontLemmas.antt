@@ -244,11 +244,11 @@ make_front o p n s front clean =
     subst (λ (k : ℕ). IsCleanFrom k (edited_outline o (Mkdir p) s).directories) (one_more front.before ∙ sym front.is)
     (clean_made o s.pair (parent_of o p) front.before front.none clean)
 
-pub put_front : (o : Volume) (p : Path) (bytes : List ℕ) (n : ℕ) (s : Supplies) → IsFrontOf o p n → IsClean o
-    → IsCleanFrom n (edited_outline o (Put p bytes) s).directories
-put_front o p bytes n s front clean =
-    subst (λ (k : ℕ). IsCleanFrom k (edited_outline o (Put p bytes) s).directories) (one_more front.before ∙ sym front.is)
-    (clean_put o (outlined_body (new_body o s bytes)) (parent_of o p) (entry_at o p) front.before front.none clean)
+pub put_front : (o : Volume) (p : Path) (bytes : List ℕ) (most : ℕ) (n : ℕ) (s : Supplies) → IsFrontOf o p n → IsClean o
+    → IsCleanFrom n (edited_outline o (Put p bytes most) s).directories
+put_front o p bytes most n s front clean =
+    subst (λ (k : ℕ). IsCleanFrom k (edited_outline o (Put p bytes most) s).directories) (one_more front.before ∙ sym front.is)
+    (clean_put o (outlined_body (new_body o s bytes most)) (parent_of o p) (entry_at o p) front.before front.none clean)
 
 pub set_front : (o : Volume) (p : Path) (kind : ℕ) (value : List ℕ) (n : ℕ) (s : Supplies) → IsFrontOf o p n → IsClean o
     → IsCleanFrom n (edited_outline o (SetAttr p kind value) s).directories
@@ -268,7 +268,7 @@ pub one_front : (o : Volume) (command : OnNames) (n : ℕ) → ((path : Vec (Bor
     → IsFrontOf o (path_of (named_command command)) n → (s : Supplies) → IsClean o
     → IsCleanFrom n (edited_outline o (named_command command) s).directories
 one_front o (case.Mkdir path) n rm mv grow front s clean = make_front o (map (λ n. n.now) path.items) n s front clean
-one_front o (case.Put path bytes) n rm mv grow front s clean = put_front o (map (λ n. n.now) path.items) bytes.now n s front clean
+one_front o (case.Put path bytes most) n rm mv grow front s clean = put_front o (map (λ n. n.now) path.items) bytes.now most n s front clean
 one_front o (case.Rm path) n rm mv grow front s clean = absurd (rm path refl)
 one_front o (case.Mv from to) n rm mv grow front s clean = absurd (mv from to refl)
 one_front o (case.SetAttr path kind value) n rm mv grow front s clean =

@@ -17,7 +17,7 @@ names_said (Some path) = map (λ (n : Bor Name). n.now) path.items
 path_is_said : (command : OnNames) → names_said (path_said command) ≡ path_of (named_command command)
 unfolding names_said
 path_is_said (case.Mkdir path) = refl
-path_is_said (case.Put path bytes) = refl
+path_is_said (case.Put path bytes most) = refl
 path_is_said (case.Rm path) = refl
 path_is_said (case.Mv from to) = refl
 path_is_said (case.SetAttr path kind value) = refl
@@ -35,7 +35,7 @@ some_path command found path said is =
 -- where none is, the image is lengthened
 only_growing : (command : OnNames) → path_said command ≡ None → ((count : ℕ) → command ≡ case.Grow count → ⊥) → ⊥
 only_growing (case.Mkdir path) none grow = none-some path (sym none)
-only_growing (case.Put path bytes) none grow = none-some path (sym none)
+only_growing (case.Put path bytes most) none grow = none-some path (sym none)
 only_growing (case.Rm path) none grow = none-some path (sym none)
 only_growing (case.Mv from to) none grow = none-some from (sym none)
 only_growing (case.SetAttr path kind value) none grow = none-some path (sym none)

@@ -21,7 +21,7 @@ use crate::parent::{Parent, parent_of};
 use crate::supplies::Supplies;
 use crate::thread_changes::{make_directory, move_entry, put_file, remove, target_of};
 use crate::thread_edit::{change, touch_first};
-use lfs_command::{Command, Named, most_inline};
+use lfs_command::{Command, Named, inline_limit};
 use lfs_fs::{Outline, OutlineBody};
 use lfs_meta::{remove_attribute, set_attribute};
 use std::alloc::{AllocError, Global};
@@ -55,18 +55,20 @@ fn mkdir(
     Ok(())
 }
 
-/// Where a file's contents are put: into its entry, or into the blocks of some supplies.
+/// Where a file's contents are put: into its entry, if they are no longer than the bound and the limit, otherwise into the blocks of some
+/// supplies.
 fn new_body(
     alloc: Global,
     size: u32,
     bytes: &[u8],
+    most: u32,
     supplies: Supplies,
 ) -> Result<OutlineBody, AllocError>
     requires { length bytes.now < 2 ^ 32 }
     ensures fits { IfOk result (λ body. BodyFits (stored_body (outline_body_held body))) }
-    ensures body { IfOk result (λ body. (v : Volume) → v.size ≡ size → outline_body_held body ≡ outlined_body (new_body v supplies bytes.now)) }
+    ensures body { IfOk result (λ body. (v : Volume) → v.size ≡ size → outline_body_held body ≡ outlined_body (new_body v supplies bytes.now most)) }
 {
-    if bytes.len() <= most_inline(size) as usize {
+    if bytes.len() <= inline_limit(size, most) as usize {
         return Ok(OutlineBody::Inline(Vec::from_slice(alloc, bytes)?));
     }
     prove!(supplies.blocks.last().copied().unwrap_or(0) <= u32::MAX);
@@ -82,13 +84,14 @@ fn put(
     outline: &mut Outline,
     path: &[&[u8]],
     bytes: &[u8],
+    most: u32,
     supplies: Supplies,
 ) -> Result<(), AllocError>
-    requires { IsEditable outline.old (Put (map (λ n. n.now) path.now) bytes.now) }
-    ensures { OnOk result (outline.new ≡ edited_outline outline.old (Put (map (λ n. n.now) path.now) bytes.now) supplies) }
+    requires { IsEditable outline.old (Put (map (λ n. n.now) path.now) bytes.now most) }
+    ensures { OnOk result (outline.new ≡ edited_outline outline.old (Put (map (λ n. n.now) path.now) bytes.now most) supplies) }
 {
     let parent = parent(outline, path);
-    let body = new_body(alloc, outline.size, bytes, supplies)?;
+    let body = new_body(alloc, outline.size, bytes, most, supplies)?;
     put_file(alloc, &mut outline.directories, parent, body)?;
     Ok(())
 }
@@ -184,7 +187,7 @@ pub fn edit(
 {
     match command {
         Command::Mkdir { path } => mkdir(alloc, outline, path, supplies),
-        Command::Put { path, bytes } => put(alloc, outline, path, bytes, supplies),
+        Command::Put { path, bytes, most } => { put(alloc, outline, path, bytes, *most, supplies) }
         Command::Rm { path } => {
             rm(outline, path);
             Ok(())

@@ -45,8 +45,8 @@ fn is_directory(entry: Option<&OutlineEntry>) -> bool
 /// limit, else `FileTooLarge` where the contents are longer than the limit.
 fn judge_put(outline: &Outline, path: &[&[u8]], bytes: &[u8]) -> Result<(), Refusal>
     requires { NamesRise outline.now.directories }
-    ensures unrefused { OnOk result (first_refusal (checks outline.now (Put (map (λ n. n.now) path.now) bytes.now)) ≡ None) }
-    ensures refused { IfErr result (λ r. first_refusal (checks outline.now (Put (map (λ n. n.now) path.now) bytes.now)) ≡ Some r) }
+    ensures unrefused { OnOk result ((most : ℕ) → first_refusal (checks outline.now (Put (map (λ n. n.now) path.now) bytes.now most)) ≡ None) }
+    ensures refused { IfErr result (λ r. (most : ℕ) → first_refusal (checks outline.now (Put (map (λ n. n.now) path.now) bytes.now most)) ≡ Some r) }
 {
     let entry = entry_at(outline, path)?;
     if is_directory(entry) {
@@ -157,7 +157,7 @@ pub fn judge(outline: &Outline, command: &Named<'_>) -> Result<(), Refusal>
 {
     match command {
         Command::Mkdir { path } => judge_new(outline, path)?,
-        Command::Put { path, bytes } => judge_put(outline, path, bytes)?,
+        Command::Put { path, bytes, .. } => judge_put(outline, path, bytes)?,
         Command::Rm { path } => judge_rm(outline, path)?,
         Command::Mv { from, to } => judge_mv(outline, from, to)?,
         Command::SetAttr { path, value, .. } => judge_set_attr(outline, path, value)?,

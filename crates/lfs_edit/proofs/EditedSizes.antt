@@ -37,7 +37,7 @@ set_size v f (Some h) = refl
 
 pub edited_size : (v : Volume) (c : Command) (s : Supplies) → (edited v c s).size ≡ v.size
 edited_size v (Mkdir p) s = make_size v s.pair (parent_of v p)
-edited_size v (Put p bytes) s = put_size v (new_body v s bytes) (parent_of v p) (entry_at v p)
+edited_size v (Put p bytes most) s = put_size v (new_body v s bytes most) (parent_of v p) (entry_at v p)
 edited_size v (Rm p) s = remove_size v (parent_of v p) (entry_at v p)
 edited_size v (Mv p q) s = move_size v (parent_of v p) (parent_of v q) (entry_at v p)
 edited_size v (SetAttr p k value) s = set_size v (set_attribute k value) (parent_of v p)

@@ -145,9 +145,9 @@ long_sound grow sound v c o judged =
     grown_sound o c (outline_sound sound v o judged.is) (grow o c fits judged.unrefused).1
 
 -- the contents that are put have less than 2^32 bytes, since no file is longer than its limit
-put_short : (o : Volume) (p : Path) (bytes : List ℕ) → IsLimits o.limits → first_refusal (checks o (Put p bytes)) ≡ None
+put_short : (o : Volume) (p : Path) (bytes : List ℕ) (most : ℕ) → IsLimits o.limits → first_refusal (checks o (Put p bytes most)) ≡ None
     → length bytes < 2 ^ 32
-put_short o p bytes limits passes =
+put_short o p bytes most limits passes =
     let below = first_passes (refuse_if (is_root p) IsRoot) _ passes in
     let walk = first_passes (walk_refusal (tree o) [] p) _ below.1 in
     let file = first_passes (refuse_if (is_directory (tree o p)) IsADirectory) _ walk.1 in
@@ -160,7 +160,7 @@ put_short o p bytes limits passes =
 pub accepted_short : (o : Volume) (c : OnNames) → IsLimits o.limits → first_refusal (checks o (named_command c)) ≡ None
     → contents_len c < 2 ^ 32
 accepted_short o (case.Mkdir path) limits passes = omega arith
-accepted_short o (case.Put path bytes) limits passes = put_short o (map (λ n. n.now) path.items) bytes.now limits passes
+accepted_short o (case.Put path bytes most) limits passes = put_short o (map (λ n. n.now) path.items) bytes.now most limits passes
 accepted_short o (case.Rm path) limits passes = omega arith
 accepted_short o (case.Mv from to) limits passes = omega arith
 accepted_short o (case.SetAttr path kind value) limits passes = omega arith
@@ -174,8 +174,8 @@ contents_short o c editable = accepted_short o c editable.limits editable.unrefu
 
 data_same : (v w : Volume) (c : Command) → v.size ≡ w.size → data_blocks v c ≡ data_blocks w c
 data_same v w (Mkdir p) same = refl
-data_same v w (Put p bytes) same = ap (λ (n : ℕ). data_blocks (record
-    { size = n; count = v.count; limits = v.limits; attributes = v.attributes; directories = v.directories }) (Put p bytes)) same
+data_same v w (Put p bytes most) same = ap (λ (n : ℕ). data_blocks (record
+    { size = n; count = v.count; limits = v.limits; attributes = v.attributes; directories = v.directories }) (Put p bytes most)) same
 data_same v w (Rm p) same = refl
 data_same v w (Mv p q) same = refl
 data_same v w (SetAttr p k value) same = refl

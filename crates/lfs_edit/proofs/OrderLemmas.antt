@@ -19,7 +19,7 @@ use Rattle.lfs_command.specs.Parent.{parent_of}
 use Rattle.lfs_command.specs.Leading.{leading_pair, pair_among, pair_in, path_of}
 use Rattle.lfs_command.specs.Need.{dirty_parts}
 use Rattle.lfs_command.specs.Ordered.{blocks_chosen, blocks_made, blocks_of_pairs, leader_first, leader_of, overflowing, overflowing_led, pair_blocks}
-use Rattle.lfs_command.specs.Supplies.{most_inline}
+use Rattle.lfs_command.specs.Supplies.{inline_limit}
 use Rattle.lfs_draft.specs.LeastSupplies.{least_pair, least_supplies, made_blocks}
 use Rattle.lfs_law.specs.CutOutline.{for_parts}
 use Rattle.lfs_law.proofs.OutlineCuts.{runs_outlined}
@@ -135,8 +135,8 @@ body_first free least false = refl
 pub made_first : (v : Volume) (c : Command) (free : List ℕ) → made_blocks v c ≤ length free
     → blocks_made v c (least_supplies v c free) ≡ take (made_blocks v c) free
 made_first v (Mkdir p) free enough = pair_first free enough
-made_first v (Put p bytes) free enough =
-    body_first free (least_blocks v.size (length bytes)) (nat_le (length bytes) (most_inline v.size))
+made_first v (Put p bytes most) free enough =
+    body_first free (least_blocks v.size (length bytes)) (nat_le (length bytes) (inline_limit v.size most))
     ∙ ap (λ (k : ℕ). take k free) (omega arith)
 made_first v (Rm p) free enough = refl
 made_first v (Mv p q) free enough = refl

@@ -53,7 +53,7 @@ HandsSource (Said bytes) files typed input = input ≡ []
 
 -- what is read for a step on a history: the contents that it puts
 abbrev pub HandsInput : Move Source → Option Files → Option (List ℕ) → List ℕ → Type 0
-HandsInput (Do (Put path source) keep) files typed input = HandsSource source files typed input
+HandsInput (Do (Put path source most) keep) files typed input = HandsSource source files typed input
 HandsInput _ files typed input = input ≡ []
 
 -- whether a source is standard input
@@ -63,7 +63,7 @@ is_input _ = false
 
 -- whether a step reads it
 abbrev pub reads_input : Move Source → Bool
-reads_input (Do (Put path source) keep) = is_input source
+reads_input (Do (Put path source most) keep) = is_input source
 reads_input _ = false
 
 -- where a source is another one, standard input is left as it was

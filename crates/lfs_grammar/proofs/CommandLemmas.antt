@@ -13,7 +13,7 @@ use Rattle.clap.proofs.WalkLemmas.{both}
 use Rattle.lfs_grammar.proofs.FaultlessRows.{none_of}
 use Rattle.lfs_grammar.proofs.Lists.{Each, In, contained, each, each_in}
 use Rattle.lfs_grammar.specs.Grammar.{IsNumber, IsSaid, IsSaidOrNeedNot, NamesCommand, TakesNoImage, attr_max, attr_max_or_source, block, program_commands}
-use Rattle.lfs_grammar.specs.Grammar.{count, file_max, file_max_or_source, is_change, is_wanted, keep, name_max, name_max_or_source}
+use Rattle.lfs_grammar.specs.Grammar.{count, file_max, file_max_or_source, inline_max, is_change, is_wanted, keep, name_max, name_max_or_source}
 use Rattle.lfs_grammar.specs.Grammar.{new_block, new_count, steps, word}
 
 -- ---- the command of a name
@@ -110,6 +110,9 @@ file_max_or_source_is = (1, 2147483647, refl, omega arith)
 
 pub attr_max_or_source_is : IsNumber attr_max_or_source
 attr_max_or_source_is = (1, 1022, refl, omega arith)
+
+pub inline_max_is : IsNumber inline_max
+inline_max_is = (0, 2147483647, refl, omega arith)
 
 pub keep_is : IsNumber keep
 keep_is = (1, 1000, refl, omega arith)

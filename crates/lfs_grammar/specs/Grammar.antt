@@ -78,6 +78,10 @@ file_max_or_source = number (codes "file-max") 1 2147483647
 abbrev pub attr_max_or_source : Rule
 attr_max_or_source = number (codes "attr-max") 1 1022
 
+-- how long a file may be that stands in its entry: `--inline-max`, a whole number, which needn't be said
+abbrev pub inline_max : Rule
+inline_max = number (codes "inline-max") 0 2147483647
+
 -- how many images of the past are kept: `--keep`, a whole number from 1 to 1,000, which needn't be said
 abbrev pub keep : Rule
 keep = number (codes "keep") 1 1000
@@ -191,6 +195,7 @@ rule_at argument.Device = device
 rule_at argument.Offset = offset
 rule_at argument.OffsetInSource = offset
 rule_at argument.Older = older
+rule_at argument.InlineMax = inline_max
 rule_at argument.Keep = keep
 rule_at argument.Steps = steps
 rule_at argument.Image = word (codes "image")
@@ -272,7 +277,7 @@ abbrev pub repack : Shape
 repack =
     (command (codes "repack") (
     new_block ∷ word (codes "image") ∷ word (codes "source") ∷ from_block ∷ count ∷ size ∷ flag (codes "least")
-    ∷ name_max_or_source ∷ file_max_or_source ∷ attr_max_or_source ∷ is_new ∷ device ∷ offset ∷ older ∷ []
+    ∷ inline_max ∷ name_max_or_source ∷ file_max_or_source ∷ attr_max_or_source ∷ is_new ∷ device ∷ offset ∷ older ∷ []
     )).top
 
 -- a command that shows what an image holds, which may be read as a device does, and may begin at a place of its file
@@ -305,7 +310,7 @@ TakesNoImage name = (name ≡ codes "find") ⊎ (name ≡ codes "explain")
 abbrev pub program_commands : List Shape
 program_commands =
     making_command (codes "format") (count ∷ size ∷ [])
-    ∷ making_command (codes "pack") (word (codes "dir") ∷ count ∷ size ∷ flag (codes "least") ∷ [])
+    ∷ making_command (codes "pack") (word (codes "dir") ∷ count ∷ size ∷ flag (codes "least") ∷ inline_max ∷ [])
     ∷ repack
     ∷ (command (codes "find") (word (codes "flash") ∷ device ∷ [])).top
     ∷ asking (codes "extract") (word (codes "dir") ∷ path_or_root ∷ [])
@@ -317,18 +322,18 @@ program_commands =
     ∷ asking (codes "diff") (word (codes "other") ∷ quiet ∷ json ∷ [])
     ∷ reading (codes "log") (json ∷ [])
     ∷ changing (codes "mkdir") (word (codes "path") ∷ parents ∷ [])
-    ∷ changing (codes "put") (word (codes "path") ∷ contents ∷ parents ∷ [])
+    ∷ changing (codes "put") (word (codes "path") ∷ contents ∷ parents ∷ inline_max ∷ [])
     ∷ changing (codes "rm") (word (codes "path") ∷ recursive ∷ [])
     ∷ changing (codes "mv") (word (codes "from") ∷ word (codes "to") ∷ [])
     ∷ changing (codes "setattr") (word (codes "path") ∷ word (codes "kind") ∷ word (codes "hex") ∷ [])
     ∷ changing (codes "rmattr") (word (codes "path") ∷ word (codes "kind") ∷ [])
     ∷ changing (codes "grow") (new_count ∷ size ∷ [])
-    ∷ changing (codes "sync") (word (codes "dir") ∷ path_or_root ∷ [])
+    ∷ changing (codes "sync") (word (codes "dir") ∷ path_or_root ∷ inline_max ∷ [])
     ∷ reading (codes "undo") (steps ∷ [])
     ∷ reading (codes "redo") (steps ∷ [])
     ∷ reading (codes "forget") []
     ∷ adopt
-    ∷ changing (codes "batch") (script ∷ one ∷ [])
+    ∷ changing (codes "batch") (script ∷ one ∷ inline_max ∷ [])
     ∷ (command (codes "explain") (faults ∷ [])).top
     ∷ []
 

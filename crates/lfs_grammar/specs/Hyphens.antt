@@ -33,9 +33,13 @@ names_tree_option word = begins_with word (codes "--recursive") || begins_with w
 abbrev pub names_joint_option : Text → Bool
 names_joint_option word = begins_with word (codes "--one") || names_tree_option word
 
+-- an option of commands that put files, or of several commands, by its long name
+abbrev pub names_put_option : Text → Bool
+names_put_option word = begins_with word (codes "--inline") || names_joint_option word
+
 -- an option of a change, by its long name
 abbrev pub names_change_option : Text → Bool
-names_change_option word = names_past_option word || names_joint_option word
+names_change_option word = names_past_option word || names_put_option word
 
 -- an option that says how an image is looked at, by its long name
 abbrev pub names_view_option : Text → Bool

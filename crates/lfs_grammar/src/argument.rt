@@ -63,6 +63,8 @@ pub(crate) enum Argument {
     OffsetInSource,
     /// That the state before commits of a later disk version is gone on with.
     Older,
+    /// The greatest length of a file that stands in its entry.
+    InlineMax,
     /// The number of images of the past that are kept.
     Keep,
     /// The number of changes that are taken back or made again.
@@ -325,6 +327,13 @@ static OLDER: ArgumentRow = ArgumentRow {
     help: "Go on with the state before commits of a later disk version, which are not read",
 };
 
+/// The greatest length of a file that stands in its entry.
+static INLINE_MAX: ArgumentRow = ArgumentRow {
+    id: "inline-max",
+    form: Form::Number("N", 0, 2_147_483_647),
+    help: "Greatest length in bytes of a file that stands in its entry; never more than 1022 or an eighth of a block",
+};
+
 /// The number of images that are kept.
 static KEEP: ArgumentRow = ArgumentRow {
     id: "keep",
@@ -503,6 +512,7 @@ fn row_of(argument: Argument) -> &'static ArgumentRow
         Argument::Offset => &OFFSET,
         Argument::OffsetInSource => &OFFSET_IN_SOURCE,
         Argument::Older => &OLDER,
+        Argument::InlineMax => &INLINE_MAX,
         Argument::Keep => &KEEP,
         Argument::Steps => &STEPS,
         Argument::Image => &IMAGE,

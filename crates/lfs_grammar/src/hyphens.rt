@@ -3,7 +3,7 @@
 ghost use Rattle.std.specs.Prelude.{◌≡◌, IfOk, map};
 ghost use Rattle.clap.specs.Words.{first_of, found_of, rows_of, subcommand_rows_of};
 ghost use Rattle.lfs_grammar.specs.Hyphens.{are_plain_names, dashed, is_plain_name, is_stray, is_tree_letter, names_change_option, names_files_plainly};
-ghost use Rattle.lfs_grammar.specs.Hyphens.{names_answer_option, names_asking_option, names_file_option, names_joint_option, names_letter, names_tree_option};
+ghost use Rattle.lfs_grammar.specs.Hyphens.{names_answer_option, names_asking_option, names_file_option, names_joint_option, names_letter, names_put_option, names_tree_option};
 ghost use Rattle.lfs_grammar.specs.Hyphens.{names_image_option, names_limit_option, names_long_option, names_new_option, names_option, names_past_option, names_view_option};
 
 use clap::ArgMatches;
@@ -43,7 +43,14 @@ fn names_limit_option(word: &str) -> bool
 fn names_change_option(word: &str) -> bool
     ensures { result ≡ names_change_option word.now }
 {
-    names_past_option(word) || names_joint_option(word)
+    names_past_option(word) || names_put_option(word)
+}
+
+/// Whether a word is an option of commands that put files, or of several commands, by its long name.
+fn names_put_option(word: &str) -> bool
+    ensures { result ≡ names_put_option word.now }
+{
+    word.starts_with("--inline") || names_joint_option(word)
 }
 
 /// Whether a word is an option of several commands that are one change, by its long name.

@@ -36,9 +36,10 @@ pub fn filled<'a>(step: &'a Move<'a, Source<'a>>, read: &'a [u8]) -> Move<'a>
     };
     let command = match command {
         Command::Mkdir { path } => Command::Mkdir { path: *path },
-        Command::Put { path, bytes } => Command::Put {
+        Command::Put { path, bytes, most } => Command::Put {
             path: *path,
             bytes: bytes_of(bytes, read),
+            most: *most,
         },
         Command::Rm { path } => Command::Rm { path: *path },
         Command::Mv { from, to } => Command::Mv {

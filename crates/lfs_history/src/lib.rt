@@ -8,6 +8,7 @@ mod moves;
 mod open_fault;
 mod source;
 mod step_fault;
+mod terms;
 
 pub use filling::filled;
 pub use laws::{
@@ -20,3 +21,4 @@ pub use moves::Move;
 pub use open_fault::OpenFault;
 pub use source::Source;
 pub use step_fault::StepFault;
+pub use terms::Terms;

@@ -20,7 +20,7 @@ use Rattle.lfs_command.specs.PathMap.{put_at_path}
 use Rattle.lfs_command.specs.Command.{Command, Mkdir, Put, Rm, Mv, SetAttr, RmAttr, Grow}
 use Rattle.lfs_command.specs.Growth.{count_after}
 use Rattle.lfs_command.specs.Equation.{equation, attributes_of, attributes_at, with_attributes}
-use Rattle.lfs_command.specs.Supplies.{Supplies, AreFree, supply_uses, most_inline, new_body}
+use Rattle.lfs_command.specs.Supplies.{Supplies, AreFree, supply_uses, inline_limit, new_body}
 use Rattle.lfs_command.specs.Parent.{parent_of}
 use Rattle.lfs_command.specs.Edited.{edited, put_file, remove_entry, move_entry, set_attributes}
 use Rattle.lfs_command.specs.Verdict.{refuse_if, walk_refusal, is_directory, is_root, last_length, is_bare, lies_below}
@@ -122,16 +122,16 @@ made_follows v p s ordered ok =
 
 -- ---- files put
 
-body_by : (v : Volume) (p : Path) (bytes : List ℕ) (s : Supplies) → AreFree v (Put p bytes) s → length bytes ≤ v.limits.file → (t : Bool)
-    → nat_le (length bytes) (most_inline v.size) ≡ t → IsNewBody v (if t then Inline bytes else Chain s.blocks bytes) bytes
-body_by v p bytes s free small true is = record {
+body_by : (v : Volume) (p : Path) (bytes : List ℕ) (most : ℕ) (s : Supplies) → AreFree v (Put p bytes most) s → length bytes ≤ v.limits.file → (t : Bool)
+    → nat_le (length bytes) (inline_limit v.size most) ≡ t → IsNewBody v (if t then Inline bytes else Chain s.blocks bytes) bytes
+body_by v p bytes most s free small true is = record {
   leads = refl;
   shows = λ a. refl;
   len = small;
   once = λ b. subst (λ (t : Bool). uses b v + body_uses b (if t then Inline bytes else Chain s.blocks bytes) ≤ 1) is (free.once b);
   within = λ b used. free.within b (subst (λ (t : Bool). 0 < body_uses b (if t then Inline bytes else Chain s.blocks bytes)) (sym is) used);
 }
-body_by v p bytes s free small false is = record {
+body_by v p bytes most s free small false is = record {
   leads = refl;
   shows = λ a. refl;
   len = small;
@@ -139,9 +139,9 @@ body_by v p bytes s free small false is = record {
   within = λ b used. free.within b (subst (λ (t : Bool). 0 < body_uses b (if t then Inline bytes else Chain s.blocks bytes)) (sym is) used);
 }
 
-new_body_free : (v : Volume) (p : Path) (bytes : List ℕ) (s : Supplies) → AreFree v (Put p bytes) s → length bytes ≤ v.limits.file
-    → IsNewBody v (new_body v s bytes) bytes
-new_body_free v p bytes s free small = body_by v p bytes s free small (nat_le (length bytes) (most_inline v.size)) refl
+new_body_free : (v : Volume) (p : Path) (bytes : List ℕ) (most : ℕ) (s : Supplies) → AreFree v (Put p bytes most) s → length bytes ≤ v.limits.file
+    → IsNewBody v (new_body v s bytes most) bytes
+new_body_free v p bytes most s free small = body_by v p bytes most s free small (nat_le (length bytes) (inline_limit v.size most)) refl
 
 file_leads : (b : Body) (a : Attributes) → is_directory (Some (node_of b a)) ≡ false → body_target b ≡ None
 file_leads (Inline bytes) a h = refl
@@ -166,19 +166,19 @@ put_by v p bytes body ordered sound at new (Some e) is file short =
     (λ b. body_uses b body)) (sym (attributes_shown e.body e.attributes))
     (old_file_follows v p body bytes e ordered sound at is (file_leads e.body e.attributes file) new)
 
-put_follows : (v : Volume) (p : Path) (bytes : List ℕ) (s : Supplies) → NamesAreOrdered → IsAccepted v (Put p bytes) s
-    → Carries v (Put p bytes) s
-put_follows v p bytes s ordered ok =
+put_follows : (v : Volume) (p : Path) (bytes : List ℕ) (most : ℕ) (s : Supplies) → NamesAreOrdered → IsAccepted v (Put p bytes most) s
+    → Carries v (Put p bytes most) s
+put_follows v p bytes most s ordered ok =
     let below = first_passes (refuse_if (is_root p) IsRoot) _ ok.unrefused in
     let walk = first_passes (walk_refusal (tree v) [] p) _ below.1 in
     let file = first_passes (refuse_if (is_directory (tree v p)) IsADirectory) _ walk.1 in
     let short = first_passes (refuse_if (is_none (tree v p) && nat_lt v.limits.name (last_length p)) NameTooLong) _ file.1 in
     let small = first_passes (refuse_if (nat_lt v.limits.file (length bytes)) FileTooLarge) _ short.1 in
     let at = is_placed v p ok.sound (All-head (All IsName) p [] ok.names) (test_passes (is_root p) IsRoot below.0) walk.0 in
-    puts_carry v (Put p bytes) s p (Some (File bytes (attributes_at (tree v p)))) (λ b. content_uses v p b)
-    (λ b. body_uses b (new_body v s bytes)) refl (λ q. refl) (λ b. refl) (λ b. refl)
-    (put_by v p bytes (new_body v s bytes) ordered ok.sound at
-    (new_body_free v p bytes s ok.free (ltb-false v.limits.file (length bytes)
+    puts_carry v (Put p bytes most) s p (Some (File bytes (attributes_at (tree v p)))) (λ b. content_uses v p b)
+    (λ b. body_uses b (new_body v s bytes most)) refl (λ q. refl) (λ b. refl) (λ b. refl)
+    (put_by v p bytes (new_body v s bytes most) ordered ok.sound at
+    (new_body_free v p bytes most s ok.free (ltb-false v.limits.file (length bytes)
     (test_passes (nat_lt v.limits.file (length bytes)) FileTooLarge small.0)))
     (entry_at v p) refl (test_passes (is_directory (tree v p)) IsADirectory file.0)
     (test_passes (is_none (tree v p) && nat_lt v.limits.name (last_length p)) NameTooLong short.0))
@@ -239,7 +239,7 @@ moved_follows v p q s ordered ok =
 
 pub commands_carry : NamesAreOrdered → (v : Volume) (c : Command) (s : Supplies) → IsAccepted v c s → Carries v c s
 commands_carry ordered v (Mkdir p) s ok = made_follows v p s ordered ok
-commands_carry ordered v (Put p bytes) s ok = put_follows v p bytes s ordered ok
+commands_carry ordered v (Put p bytes most) s ok = put_follows v p bytes most s ordered ok
 commands_carry ordered v (Rm p) s ok = removed_follows v p s ordered ok
 commands_carry ordered v (Mv p q) s ok = moved_follows v p q s ordered ok
 commands_carry ordered v (SetAttr p k value) s ok = set_follows v p k value s ordered ok

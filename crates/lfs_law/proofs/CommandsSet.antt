@@ -409,12 +409,12 @@ some_set ordered v (Mkdir p) s ok =
     let at = is_placed v p ok.sound (All-head (All IsName) p [] ok.names) (test_passes (is_root p) IsRoot below.0) walk.0 in
     subst (λ (o : Option (Pair × Name)). sets v (make_directory v s.pair o)) (sym at.parent.parent)
     (directory_made v p s.pair ok.sound (at.parent.pair, at.parent.name) at.parent.parent)
-some_set ordered v (Put p bytes) s ok =
+some_set ordered v (Put p bytes most) s ok =
     let below = first_passes (refuse_if (is_root p) IsRoot) _ ok.unrefused in
     let walk = first_passes (walk_refusal (tree v) [] p) _ below.1 in
     let at = is_placed v p ok.sound (All-head (All IsName) p [] ok.names) (test_passes (is_root p) IsRoot below.0) walk.0 in
-    subst (λ (o : Option (Pair × Name)). sets v (put_file v (new_body v s bytes) o (entry_at v p))) (sym at.parent.parent)
-    (file_put v p (new_body v s bytes) ok.sound (at.parent.pair, at.parent.name) at.parent.parent (entry_at v p) refl)
+    subst (λ (o : Option (Pair × Name)). sets v (put_file v (new_body v s bytes most) o (entry_at v p))) (sym at.parent.parent)
+    (file_put v p (new_body v s bytes most) ok.sound (at.parent.pair, at.parent.name) at.parent.parent (entry_at v p) refl)
 some_set ordered v (Rm p) s ok =
     let below = first_passes (refuse_if (is_root p) IsRoot) _ ok.unrefused in
     let walk = first_passes (walk_refusal (tree v) [] p) _ below.1 in

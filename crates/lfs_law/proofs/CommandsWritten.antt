@@ -130,7 +130,7 @@ known_before chains empty long d disk q v bytes held =
 
 new_known : (r q : Reading) (v : Volume) (c : Command) (s : Supplies) → NewIsThere q v c s → OfNew (Known r q v) v c s
 new_known r q v (Mkdir p) s there = tt
-new_known r q v (Put p bytes) s there = inr there
+new_known r q v (Put p bytes most) s there = inr there
 new_known r q v (Rm p) s there = tt
 new_known r q v (Mv p p2) s there = tt
 new_known r q v (SetAttr p k value) s there = tt
@@ -269,9 +269,9 @@ superblock_kept chosen v (Mkdir p) s sound after l there is unset = (
   make_attributes v s.pair (parent_of v p),
   bytes_same v (cut chosen (edited v (Mkdir p) s)) after.size after.count after.limits,
 )
-superblock_kept chosen v (Put p bytes) s sound after l there is unset = (
-  put_attributes v (new_body v s bytes) (parent_of v p) (entry_at v p),
-  bytes_same v (cut chosen (edited v (Put p bytes) s)) after.size after.count after.limits,
+superblock_kept chosen v (Put p bytes most) s sound after l there is unset = (
+  put_attributes v (new_body v s bytes most) (parent_of v p) (entry_at v p),
+  bytes_same v (cut chosen (edited v (Put p bytes most) s)) after.size after.count after.limits,
 )
 superblock_kept chosen v (Rm p) s sound after l there is unset = (
   remove_attributes v (parent_of v p) (entry_at v p),

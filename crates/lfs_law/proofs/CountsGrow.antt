@@ -20,7 +20,7 @@ grows v n passes =
 
 pub counts_grow : CountsGrow
 counts_grow v (Mkdir p) fits passes = (fits, omega arith)
-counts_grow v (Put p bytes) fits passes = (fits, omega arith)
+counts_grow v (Put p bytes most) fits passes = (fits, omega arith)
 counts_grow v (Rm p) fits passes = (fits, omega arith)
 counts_grow v (Mv p q) fits passes = (fits, omega arith)
 counts_grow v (SetAttr p k value) fits passes = (fits, omega arith)

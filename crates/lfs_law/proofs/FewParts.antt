@@ -246,11 +246,11 @@ at_parent v p at h e is here =
 pub few_parts_change : NamesAreOrdered → FewPartsChange
 few_parts_change ordered v (Mkdir p) s ok clean = make_few v p s ok.sound clean (record { once = ok.free.once; within = ok.free.within })
     (parent_of v p) refl
-few_parts_change ordered v (Put p bytes) s ok clean =
+few_parts_change ordered v (Put p bytes most) s ok clean =
     omega (
       arith,
-      changed_are_marked v (edited v (Put p bytes) s),
-      put_few v p (new_body v s bytes) ordered ok.sound clean (parent_of v p)
+      changed_are_marked v (edited v (Put p bytes most) s),
+      put_few v p (new_body v s bytes most) ordered ok.sound clean (parent_of v p)
           (entry_at v p) refl,
     )
 few_parts_change ordered v (Rm p) s ok clean = omega (

@@ -121,7 +121,7 @@ edited_zero f zero' follow v (Mkdir path) s ok p there new =
           (λ is. some (ap f is ∙ zero' s.pair)) in
           absurd no)
     ]
-edited_zero f zero' follow v (Put path bytes) s ok p there new = absurd (none_new v (Put path bytes) s refl p there new)
+edited_zero f zero' follow v (Put path bytes most) s ok p there new = absurd (none_new v (Put path bytes most) s refl p there new)
 edited_zero f zero' follow v (Rm path) s ok p there new = absurd (none_new v (Rm path) s refl p there new)
 edited_zero f zero' follow v (Mv from to) s ok p there new = absurd (none_new v (Mv from to) s refl p there new)
 edited_zero f zero' follow v (SetAttr path k value) s ok p there new = absurd (none_new v (SetAttr path k value) s refl p there new)

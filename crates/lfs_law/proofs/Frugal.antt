@@ -63,7 +63,7 @@ move_kept v (Some h) (Some g) (Some e) =
 
 pub commands_are_frugal : CommandsAreFrugal
 commands_are_frugal v (Mkdir p) s = make_kept v s.pair (parent_of v p)
-commands_are_frugal v (Put p bytes) s = put_kept v (new_body v s bytes) (parent_of v p) (entry_at v p)
+commands_are_frugal v (Put p bytes most) s = put_kept v (new_body v s bytes most) (parent_of v p) (entry_at v p)
 commands_are_frugal v (Rm p) s = remove_kept v (parent_of v p) (entry_at v p)
 commands_are_frugal v (Mv p q) s = move_kept v (parent_of v p) (parent_of v q) (entry_at v p)
 commands_are_frugal v (SetAttr p k value) s = set_kept v (set_attribute k value) (parent_of v p)

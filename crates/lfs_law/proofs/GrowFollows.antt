@@ -48,7 +48,7 @@ grow_follows v n s ok =
 -- an accepted command leaves no fewer blocks
 pub accepted_grow : (v : Volume) (c : Command) (s : Supplies) → IsAccepted v c s → v.count ≤ count_after c v.count
 accepted_grow v (Mkdir p) s ok = omega arith
-accepted_grow v (Put p bytes) s ok = omega arith
+accepted_grow v (Put p bytes most) s ok = omega arith
 accepted_grow v (Rm p) s ok = omega arith
 accepted_grow v (Mv p q) s ok = omega arith
 accepted_grow v (SetAttr p k value) s ok = omega arith

@@ -164,7 +164,7 @@ move_bodies P v (Some h) (Some k) (Some e) known all =
 -- the same of a file's new contents
 abbrev pub OfNew : (Body → Type 0) → Volume → Command → Supplies → Type 0
 OfNew P v (Mkdir p) s = Unit {0}
-OfNew P v (Put p bytes) s = P (new_body v s bytes)
+OfNew P v (Put p bytes most) s = P (new_body v s bytes most)
 OfNew P v (Rm p) s = Unit {0}
 OfNew P v (Mv p q) s = Unit {0}
 OfNew P v (SetAttr p k value) s = Unit {0}
@@ -175,7 +175,7 @@ pub edited_bodies : (P : Body → Type 0) (v : Volume) (c : Command) (s : Suppli
     → Bodies P v.directories
     → Bodies P (edited v c s).directories
 edited_bodies P v (Mkdir p) s leads new all = make_bodies P v s.pair (parent_of v p) (leads s.pair) all
-edited_bodies P v (Put p bytes) s leads new all = put_bodies P v (new_body v s bytes) (parent_of v p) (entry_at v p) new all
+edited_bodies P v (Put p bytes most) s leads new all = put_bodies P v (new_body v s bytes most) (parent_of v p) (entry_at v p) new all
 edited_bodies P v (Rm p) s leads new all = remove_bodies P v (parent_of v p) (entry_at v p) all
 edited_bodies P v (Mv p q) s leads new all = move_bodies P v (parent_of v p) (parent_of v q) (entry_at v p)
     (λ e at. body_at P v p e (leads root) all at) all

@@ -16,7 +16,7 @@ use Rattle.lfs_fs.specs.Uses.{times}
 use Rattle.lfs_fs.specs.Reading.{reading_of}
 use Rattle.lfs_fs.proofs.ContainsLemmas.{contains_first, contains_later}
 use Rattle.lfs_command.specs.Command.{Mkdir, Put, Rm, Mv, SetAttr, RmAttr, Grow}
-use Rattle.lfs_command.specs.Supplies.{most_inline, supply_uses}
+use Rattle.lfs_command.specs.Supplies.{inline_limit, supply_uses}
 use Rattle.lfs_law.specs.WrittenLinks.{changed_blocks, block_after}
 use Rattle.lfs_law.specs.OutlineLaws.{IsThere}
 use Rattle.lfs_law.specs.PlansHold.{content_blocks}
@@ -68,16 +68,16 @@ laid_are_there found content kept_disk kept_blocks d v (RmAttr path k) s chosen 
     lays written = (tt, tt)
 laid_are_there found content kept_disk kept_blocks d v (Grow n) s chosen new is_new base p disk patch stands keeps free named
     lays written = (tt, tt)
-laid_are_there found content kept_disk kept_blocks d v (Put path bytes) s chosen new is_new base p disk patch stands keeps free named
+laid_are_there found content kept_disk kept_blocks d v (Put path bytes most) s chosen new is_new base p disk patch stands keeps free named
     lays written =
     let after = kept_disk p d disk.disk patch stands keeps in (
-      body_by d (applied p d) bytes s.blocks (nat_le (length bytes) (most_inline v.size))
+      body_by d (applied p d) bytes s.blocks (nat_le (length bytes) (inline_limit v.size most))
           (λ chain.
           laid_there found content d (applied p d) bytes s.blocks base after.disk after.size (lays chain)
           (λ n there.
-          let taken : 0 < supply_uses v (Put path bytes) s n = omega (
+          let taken : 0 < supply_uses v (Put path bytes most) s n = omega (
             arith,
-            supplies_once v (Put path bytes) s n,
+            supplies_once v (Put path bytes most) s n,
             times_there n s.blocks there,
             ap (times n) (blocks_are chain),
           ) in
@@ -87,10 +87,10 @@ laid_are_there found content kept_disk kept_blocks d v (Put path bytes) s chosen
           ∙ ap (λ (n : ℕ). laid n bytes s.blocks) (sym after.size),
     )
   where
-    blocks_are : nat_le (length bytes) (most_inline v.size) ≡ false → content_blocks v (Put path bytes) s ≡ s.blocks
+    blocks_are : nat_le (length bytes) (inline_limit v.size most) ≡ false → content_blocks v (Put path bytes most) s ≡ s.blocks
     blocks_are chain = ap (λ (t : Bool). if t then [] else s.blocks) chain
 
-    stays : nat_le (length bytes) (most_inline v.size) ≡ false → (n : ℕ) → Contains s.blocks n
+    stays : nat_le (length bytes) (inline_limit v.size most) ≡ false → (n : ℕ) → Contains s.blocks n
         → block_of (applied p d) n ≡ block_after d base n
     stays chain n there =
         let some : 0 < times n (changed_blocks base) = omega

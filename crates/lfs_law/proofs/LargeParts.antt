@@ -141,7 +141,7 @@ make_large v p q p_other q_other (Some h) =
 
 pub large_is_the_same : LargeIsTheSame
 large_is_the_same v (Mkdir p) s other = make_large v nothing.pair s.pair refl other (parent_of v p)
-large_is_the_same v (Put p bytes) s other = put_large v (new_body v nothing bytes) (new_body v s bytes) (put_body v s bytes) (parent_of v p)
+large_is_the_same v (Put p bytes most) s other = put_large v (new_body v nothing bytes most) (new_body v s bytes most) (put_body v s bytes most) (parent_of v p)
     (entry_at v p)
 large_is_the_same v (Rm p) s other = refl
 large_is_the_same v (Mv p q) s other = refl

@@ -64,7 +64,7 @@ none_made v s = by (is_new_to v s.pair)
 
 none_made_by : (v : Volume) (c : Command) (s : Supplies) → made_total (new_elsewhere v s) c s ≡ 0
 none_made_by v (Mkdir p) s = none_made v s
-none_made_by v (Put p bytes) s = refl
+none_made_by v (Put p bytes most) s = refl
 none_made_by v (Rm p) s = refl
 none_made_by v (Mv p q) s = refl
 none_made_by v (SetAttr p k value) s = refl

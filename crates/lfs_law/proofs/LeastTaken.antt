@@ -16,7 +16,7 @@ use Rattle.lfs_command.specs.Edited.{edited}
 use Rattle.lfs_command.specs.Need.{dirty_parts}
 use Rattle.lfs_command.specs.Ordered.{TakesInOrder, blocks_chosen, blocks_made, blocks_of_pairs, leader, overflowing, overflowing_led, pair_blocks}
 use Rattle.lfs_command.specs.Planned.{TakesLeast}
-use Rattle.lfs_command.specs.Supplies.{Supplies, most_inline, supply_uses}
+use Rattle.lfs_command.specs.Supplies.{Supplies, inline_limit, supply_uses}
 use Rattle.lfs_law.proofs.Leaders.{leader_permutes}
 use Rattle.lfs_law.proofs.LinksAdded.{times_append}
 use Rattle.lfs_law.proofs.NamedBlocks.{times_flat}
@@ -43,7 +43,7 @@ body_used n bytes blocks false = refl
 
 pub made_used : (v : Volume) (c : Command) (s : Supplies) (n : ℕ) → supply_uses v c s n ≡ times n (blocks_made v c s)
 made_used v (Mkdir p) s n = refl
-made_used v (Put p bytes) s n = body_used n bytes s.blocks (nat_le (length bytes) (most_inline v.size))
+made_used v (Put p bytes most) s n = body_used n bytes s.blocks (nat_le (length bytes) (inline_limit v.size most))
 made_used v (Rm p) s n = refl
 made_used v (Mv p q) s n = refl
 made_used v (SetAttr p k value) s n = refl

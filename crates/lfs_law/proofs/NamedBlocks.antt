@@ -26,7 +26,7 @@ use Rattle.lfs_command.specs.declared.refusal.Refusal.TheVariants.{IsRoot}
 use Rattle.lfs_command.specs.DirectoryEdit.{link_in, touch_last}
 use Rattle.lfs_command.specs.ThreadEdit.{link, add_after}
 use Rattle.lfs_command.specs.Command.{Command, Mkdir, Put, Rm, Mv, SetAttr, RmAttr, Grow}
-use Rattle.lfs_command.specs.Supplies.{Supplies, most_inline, supply_uses}
+use Rattle.lfs_command.specs.Supplies.{Supplies, inline_limit, supply_uses}
 use Rattle.lfs_command.specs.Parent.{parent_of}
 use Rattle.lfs_command.specs.Edited.{new_entry, empty_directory, make_directory, edited}
 use Rattle.lfs_command.specs.Cut.{runs, more_parts, cut, new_pairs, HasEnough, new_pair_uses}
@@ -185,10 +185,10 @@ supplies_taken v (Mkdir p) s n ok =
     let at : IsPlaced v p = is_placed v p ok.sound (All-head (All IsName) p [] ok.names) (test_passes (is_root p) IsRoot below.0) walk.0 in
     let none : uses s.pair.0 v ≡ 0 = omega (arith, ok.free.once s.pair.0, first_used s.pair) in
     omega (arith, made_alone v p s.pair n at, pair_is_new v s.pair n none)
-supplies_taken v (Put p bytes) s n ok = omega (
+supplies_taken v (Put p bytes most) s n ok = omega (
   arith,
-  none_set v (Put p bytes) s n refl,
-  contents_by n bytes s.blocks (nat_le (length bytes) (most_inline v.size)),
+  none_set v (Put p bytes most) s n refl,
+  contents_by n bytes s.blocks (nat_le (length bytes) (inline_limit v.size most)),
 )
 supplies_taken v (Rm p) s n ok = omega (arith, none_set v (Rm p) s n refl)
 supplies_taken v (Mv p q) s n ok = omega (arith, none_set v (Mv p q) s n refl)
@@ -319,7 +319,7 @@ set_uses_thread n ds =
 pub supplies_once : (v : Volume) (c : Command) (s : Supplies) (n : ℕ)
     → times n (content_blocks v c s) + made_total (pair_times n) c s ≡ supply_uses v c s n
 supplies_once v (Mkdir p) s n = omega arith
-supplies_once v (Put p bytes) s n = omega (arith, contents_by n bytes s.blocks (nat_le (length bytes) (most_inline v.size)))
+supplies_once v (Put p bytes most) s n = omega (arith, contents_by n bytes s.blocks (nat_le (length bytes) (inline_limit v.size most)))
 supplies_once v (Rm p) s n = refl
 supplies_once v (Mv p q) s n = refl
 supplies_once v (SetAttr p k value) s n = refl

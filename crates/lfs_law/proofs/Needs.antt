@@ -23,7 +23,7 @@ use Rattle.lfs_command.specs.EntryEdit.{place, changed}
 use Rattle.lfs_command.specs.DirectoryEdit.{touch, has_name, change_in, behind, link_parts, link_in, touch_last_of, touch_last}
 use Rattle.lfs_command.specs.ThreadEdit.{in_directory, link, change, add_after}
 use Rattle.lfs_command.specs.Command.{Command, Mkdir, Put, Rm, Mv, SetAttr, RmAttr, Grow}
-use Rattle.lfs_command.specs.Supplies.{Supplies, nothing, most_inline, new_body}
+use Rattle.lfs_command.specs.Supplies.{Supplies, nothing, inline_limit, new_body}
 use Rattle.lfs_command.specs.Parent.{parent_of}
 use Rattle.lfs_command.specs.Edited.{with_directories, with_body, new_entry, empty_directory, make_directory, put_file, edited}
 use Rattle.lfs_command.specs.Cut.{room, is_first, runs, new_pairs, HasEnough}
@@ -293,8 +293,8 @@ body_by : (bytes some others : List ℕ) (t : Bool) → body_weight (if t then I
 body_by bytes some others true = refl
 body_by bytes some others false = refl
 
-pub put_body : (v : Volume) (s : Supplies) (bytes : List ℕ) → body_weight (new_body v nothing bytes) ≡ body_weight (new_body v s bytes)
-put_body v s bytes = body_by bytes [] s.blocks (nat_le (length bytes) (most_inline v.size))
+pub put_body : (v : Volume) (s : Supplies) (bytes : List ℕ) (most : ℕ) → body_weight (new_body v nothing bytes most) ≡ body_weight (new_body v s bytes most)
+put_body v s bytes most = body_by bytes [] s.blocks (nat_le (length bytes) (inline_limit v.size most))
 
 put_need : RunsFollowWeights Entry ℕ → (v : Volume) (b c : Body) → body_weight b ≡ body_weight c
     → (h : Option (Pair × Name)) (old : Option Entry)
@@ -328,7 +328,7 @@ make_need follow v p q (Some h) =
 edited_need : RunsFollowWeights Entry ℕ → (v : Volume) (c : Command) (s : Supplies)
     → dirty_need (edited v c nothing) ≡ dirty_need (edited v c s)
 edited_need follow v (Mkdir p) s = make_need follow v nothing.pair s.pair (parent_of v p)
-edited_need follow v (Put p bytes) s = put_need follow v (new_body v nothing bytes) (new_body v s bytes) (put_body v s bytes) (parent_of v p)
+edited_need follow v (Put p bytes most) s = put_need follow v (new_body v nothing bytes most) (new_body v s bytes most) (put_body v s bytes most) (parent_of v p)
     (entry_at v p)
 edited_need follow v (Rm p) s = refl
 edited_need follow v (Mv p q) s = refl

@@ -27,7 +27,7 @@ use Rattle.lfs_command.specs.DirectoryEdit.{absorb_in, absorb, taking_up, drop_l
 use Rattle.lfs_law.proofs.DirectoryEdits.{dropped}
 use Rattle.lfs_command.specs.ThreadEdit.{in_directory, link, unlink, change, add_after, take_out, touch_first}
 use Rattle.lfs_command.specs.Command.{Command, Mkdir, Put, Rm, Mv, SetAttr, RmAttr, Grow}
-use Rattle.lfs_command.specs.Supplies.{nothing, most_inline, new_body}
+use Rattle.lfs_command.specs.Supplies.{nothing, inline_limit, new_body}
 use Rattle.lfs_command.specs.Parent.{parent_of}
 use Rattle.lfs_command.specs.Edited.{with_body, with_entry_attributes, renamed, new_entry, empty_directory, set_attributes, make_directory}
 use Rattle.lfs_command.specs.Edited.{put_file, drop_target, remove_entry, move_entry, edited}
@@ -340,7 +340,7 @@ move_entries m v (Some h) (Some g) (Some e) few = all_link m g.0 (renamed g.1 e)
 
 edited_entries : (m : ℕ) (v : Volume) (c : Command) → AreFew m v.directories → AreFew (m + 1) (edited v c nothing).directories
 edited_entries m v (Mkdir p) few = make_entries m v nothing.pair (parent_of v p) few
-edited_entries m v (Put p bytes) few = put_entries m v (new_body v nothing bytes) (parent_of v p) (entry_at v p) few
+edited_entries m v (Put p bytes most) few = put_entries m v (new_body v nothing bytes most) (parent_of v p) (entry_at v p) few
 edited_entries m v (Rm p) few = remove_entries m v (parent_of v p) (entry_at v p) few
 edited_entries m v (Mv p q) few = move_entries m v (parent_of v p) (parent_of v q) (entry_at v p) few
 edited_entries m v (SetAttr p k value) few = set_entries m v (set_attribute k value) (parent_of v p) few
@@ -364,9 +364,9 @@ make_marks v p pair sound clean (Some h) is =
 
 edited_marks : NamesAreOrdered → (v : Volume) (c : Command) → IsSound v → IsClean v → marks (thread (edited v c nothing).directories) ≤ 3
 edited_marks ordered v (Mkdir p) sound clean = make_marks v p nothing.pair sound clean (parent_of v p) refl
-edited_marks ordered v (Put p bytes) sound clean = omega (
+edited_marks ordered v (Put p bytes most) sound clean = omega (
   arith,
-  put_few v p (new_body v nothing bytes) ordered sound clean (parent_of v p)
+  put_few v p (new_body v nothing bytes most) ordered sound clean (parent_of v p)
       (entry_at v p) refl,
 )
 edited_marks ordered v (Rm p) sound clean = omega (arith, remove_few v p ordered sound clean (parent_of v p) (entry_at v p) refl)
@@ -392,13 +392,13 @@ stored_few v bytes false h = omega (arith, h, least_within v.size (length bytes)
 
 data_few : (v : Volume) (c : Command) → IsLimits v.limits → first_refusal (checks v c) ≡ None → data_blocks v c ≤ 2147483647
 data_few v (Mkdir p) limits passes = omega arith
-data_few v (Put p bytes) limits passes =
+data_few v (Put p bytes most) limits passes =
     let below = first_passes (refuse_if (is_root p) IsRoot) _ passes in
     let walk = first_passes (walk_refusal (tree v) [] p) _ below.1 in
     let file = first_passes (refuse_if (is_directory (tree v p)) IsADirectory) _ walk.1 in
     let short = first_passes (refuse_if (is_none (tree v p) && nat_lt v.limits.name (last_length p)) NameTooLong) _ file.1 in
     let small = first_passes (refuse_if (nat_lt v.limits.file (length bytes)) FileTooLarge) _ short.1 in
-    stored_few v bytes (nat_le (length bytes) (most_inline v.size))
+    stored_few v bytes (nat_le (length bytes) (inline_limit v.size most))
     (omega (
       arith,
       limits.file.1,
@@ -413,7 +413,7 @@ data_few v (Grow n) limits passes = omega arith
 
 directory_few : (c : Command) → directory_blocks c ≤ 2
 directory_few (Mkdir p) = omega arith
-directory_few (Put p bytes) = omega arith
+directory_few (Put p bytes most) = omega arith
 directory_few (Rm p) = omega arith
 directory_few (Mv p q) = omega arith
 directory_few (SetAttr p k value) = omega arith

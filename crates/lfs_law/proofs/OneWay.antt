@@ -24,7 +24,7 @@ use Rattle.lfs_command.specs.Leading.{leading_pair}
 use Rattle.lfs_command.specs.Need.{data_blocks, dirty_parts, need}
 use Rattle.lfs_command.specs.Ordered.{blocks_chosen, blocks_made, blocks_of_pairs, leader, overflowing, overflowing_led}
 use Rattle.lfs_command.specs.Planned.{CarriesOut}
-use Rattle.lfs_command.specs.Supplies.{Supplies, most_inline}
+use Rattle.lfs_command.specs.Supplies.{Supplies, inline_limit}
 use Rattle.lfs_law.specs.Laws.{CommandsLeadOneWay}
 use Rattle.lfs_law.proofs.Cuts.{All-left, All-right}
 use Rattle.lfs_law.proofs.Leaders.{leader_permutes}
@@ -195,8 +195,8 @@ made_same v (Mkdir p) s t us vs len is =
     let second : s.pair.1 ≡ t.pair.1 = cc in
     let others : us ≡ vs = cc in
     (ap (λ (q : Pair). make_directory v q (parent_of v p)) (pair_is s.pair t.pair first second), others)
-made_same v (Put p bytes) s t us vs len is =
-    let both = by (nat_le (length bytes) (most_inline v.size)) is in
+made_same v (Put p bytes most) s t us vs len is =
+    let both = by (nat_le (length bytes) (inline_limit v.size most)) is in
     (ap (λ (b : Body). put_file v b (parent_of v p) (entry_at v p)) both.0, both.1)
   where
     by : (inline : Bool) → (if inline then [] else s.blocks) ++ us ≡ (if inline then [] else t.blocks) ++ vs

@@ -124,11 +124,11 @@ move_outlined v (Some h) (Some g) (Some e) =
 
 pub outlines_follow : OutlinesFollow
 outlines_follow v (Mkdir p) s = make_outlined v s.pair (parent_of v p) ∙ ap (make_directory (outlined v) s.pair) (sym (parent_outlined v p))
-outlines_follow v (Put p bytes) s =
-    put_outlined v (new_body v s bytes) (parent_of v p) (entry_at v p)
-    ∙ ap (λ (h : Option (Pair × Name)). put_file (outlined v) (outlined_body (new_body v s bytes)) h
+outlines_follow v (Put p bytes most) s =
+    put_outlined v (new_body v s bytes most) (parent_of v p) (entry_at v p)
+    ∙ ap (λ (h : Option (Pair × Name)). put_file (outlined v) (outlined_body (new_body v s bytes most)) h
     (option_map outlined_entry (entry_at v p))) (sym (parent_outlined v p))
-    ∙ ap (put_file (outlined v) (outlined_body (new_body v s bytes)) (parent_of (outlined v) p)) (sym (outlined_at v p))
+    ∙ ap (put_file (outlined v) (outlined_body (new_body v s bytes most)) (parent_of (outlined v) p)) (sym (outlined_at v p))
 outlines_follow v (Rm p) s =
     remove_outlined v (parent_of v p) (entry_at v p)
     ∙ ap (λ (h : Option (Pair × Name)). remove_entry (outlined v) h (option_map outlined_entry (entry_at v p))) (sym (parent_outlined v p))

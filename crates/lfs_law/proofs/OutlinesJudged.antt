@@ -113,7 +113,7 @@ checks_same v (Mkdir p) =
     test_same (is_root p) (is_root p) IsRoot _ _ refl
     (check_same (walk_refusal (tree (outlined v)) [] p) (walk_refusal (tree v) [] p) _ _ (walk_same v [] p)
     (test_same (is_some (tree (outlined v) p)) (is_some (tree v p)) Exists _ _ (some_same v p) refl))
-checks_same v (Put p bytes) =
+checks_same v (Put p bytes most) =
     test_same (is_root p) (is_root p) IsRoot _ _ refl
     (check_same (walk_refusal (tree (outlined v)) [] p) (walk_refusal (tree v) [] p) _ _ (walk_same v [] p)
     (test_same (is_directory (tree (outlined v) p)) (is_directory (tree v p)) IsADirectory _ _ (shown is_directory directory_sees v p)
@@ -171,7 +171,7 @@ blocks_same v w same = sym (outlines_take_same_room v).blocks ∙ ap (λ (x : Vo
 
 data_same : (v : Volume) (c : Command) → data_blocks (outlined v) c ≡ data_blocks v c
 data_same v (Mkdir p) = refl
-data_same v (Put p bytes) = refl
+data_same v (Put p bytes most) = refl
 data_same v (Rm p) = refl
 data_same v (Mv p q) = refl
 data_same v (SetAttr p k value) = refl
@@ -255,7 +255,7 @@ emptied_same v p b = ap (λ (h : Option (Pair × Name)). sum_by (pair_uses b) (e
 
 freed_same : (v : Volume) (c : Command) (b : ℕ) → freed_uses (outlined v) c b ≡ freed_uses v c b
 freed_same v (Mkdir p) b = refl
-freed_same v (Put p bytes) b = content_same v p b
+freed_same v (Put p bytes most) b = content_same v p b
 freed_same v (Rm p) b = omega (arith, content_same v p b, target_uses_same v p b, emptied_same v p b)
 freed_same v (Mv p q) b = emptied_same v p b
 freed_same v (SetAttr p k value) b = refl

@@ -185,7 +185,7 @@ move_total g v (Some h) (Some k) (Some e) = omega (
 -- what a new directory adds
 abbrev pub made_total : (Pair → ℕ) → Command → Supplies → ℕ
 made_total g (Mkdir p) s = g s.pair
-made_total g (Put p bytes) s = 0
+made_total g (Put p bytes most) s = 0
 made_total g (Rm p) s = 0
 made_total g (Mv p q) s = 0
 made_total g (SetAttr p k value) s = 0
@@ -195,7 +195,7 @@ made_total g (Grow n) s = 0
 pub edited_total : (g : Pair → ℕ) (v : Volume) (c : Command) (s : Supplies)
     → total g (edited v c s).directories ≤ total g v.directories + made_total g c s
 edited_total g v (Mkdir p) s = make_total g v s.pair (parent_of v p)
-edited_total g v (Put p bytes) s = omega (arith, put_total g v (new_body v s bytes) (parent_of v p) (entry_at v p))
+edited_total g v (Put p bytes most) s = omega (arith, put_total g v (new_body v s bytes most) (parent_of v p) (entry_at v p))
 edited_total g v (Rm p) s = omega (arith, remove_total g v (parent_of v p) (entry_at v p))
 edited_total g v (Mv p q) s = omega (arith, move_total g v (parent_of v p) (parent_of v q) (entry_at v p))
 edited_total g v (SetAttr p k value) s = omega (arith, set_total g v (set_attribute k value) (parent_of v p))

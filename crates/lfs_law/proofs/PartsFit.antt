@@ -171,7 +171,7 @@ pub none_large : (v : Volume) (c : Command) (s : Supplies) → IsAccepted v c s 
 none_large v (Mkdir p) s ok =
     let none : uses s.pair.0 v ≡ 0 = omega (arith, ok.free.once s.pair.0, first_used s.pair) in
     sym (large_is_the_same v (Mkdir p) s (not_root v ok.sound s.pair none)) ∙ nothing_large v (Mkdir p) s ok
-none_large v (Put p bytes) s ok = sym (large_is_the_same v (Put p bytes) (elsewhere s) refl) ∙ nothing_large v (Put p bytes) s ok
+none_large v (Put p bytes most) s ok = sym (large_is_the_same v (Put p bytes most) (elsewhere s) refl) ∙ nothing_large v (Put p bytes most) s ok
 none_large v (Rm p) s ok = sym (large_is_the_same v (Rm p) (elsewhere s) refl) ∙ nothing_large v (Rm p) s ok
 none_large v (Mv p q) s ok = sym (large_is_the_same v (Mv p q) (elsewhere s) refl) ∙ nothing_large v (Mv p q) s ok
 none_large v (SetAttr p k value) s ok = sym (large_is_the_same v (SetAttr p k value) (elsewhere s) refl)

@@ -70,7 +70,7 @@ of_checks v (Mkdir p) = (
     ),
   ),
 )
-of_checks v (Put p bytes) = (
+of_checks v (Put p bytes most) = (
   of_test (is_root p) IsRoot tt,
   (
     of_walk (tree v) [] p,

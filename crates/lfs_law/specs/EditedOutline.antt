@@ -10,7 +10,7 @@ use Rattle.lfs_command.specs.Edited.{edited, put_file}
 
 -- the same as to a volume, less the contents of a new chain
 abbrev pub edited_outline : Volume → Command → Supplies → Volume
-edited_outline v (Put p bytes) s = put_file v (outlined_body (new_body v s bytes)) (parent_of v p) (entry_at v p)
+edited_outline v (Put p bytes most) s = put_file v (outlined_body (new_body v s bytes most)) (parent_of v p) (entry_at v p)
 edited_outline v c s = edited v c s
 
 -- the law: the outline of the edited volume is the edited outline

@@ -19,7 +19,7 @@ use Rattle.lfs_fs.specs.Holds.{Holds}
 use Rattle.lfs_fs.specs.Stored.{SaysVolume}
 use Rattle.lfs_command.specs.Command.{Command, Mkdir, Put, Rm, Mv, SetAttr, RmAttr, Grow}
 use Rattle.lfs_command.specs.Growth.{count_after, grown}
-use Rattle.lfs_command.specs.Supplies.{Supplies, AreFree, most_inline, supply_uses}
+use Rattle.lfs_command.specs.Supplies.{Supplies, AreFree, inline_limit, supply_uses}
 use Rattle.lfs_command.specs.Edited.{edited}
 use Rattle.lfs_command.specs.Cut.{cut, new_pair_uses}
 use Rattle.lfs_command.specs.Clean.{clean}
@@ -44,7 +44,7 @@ PlansHold = (d : Disk) (v : Volume) (c : Command) (s : Supplies)
 -- the blocks of a file's new contents, where they don't stand in its entry
 abbrev pub content_blocks : Volume → Command → Supplies → List ℕ
 content_blocks v (Mkdir p) s = []
-content_blocks v (Put p bytes) s = if nat_le (length bytes) (most_inline v.size) then [] else s.blocks
+content_blocks v (Put p bytes most) s = if nat_le (length bytes) (inline_limit v.size most) then [] else s.blocks
 content_blocks v (Rm p) s = []
 content_blocks v (Mv p q) s = []
 content_blocks v (SetAttr p k value) s = []

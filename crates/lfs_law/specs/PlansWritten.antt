@@ -14,7 +14,7 @@ use Rattle.lfs_fs.specs.Thread.{links}
 use Rattle.lfs_fs.specs.Reading.{Reading, reading_of}
 use Rattle.lfs_command.specs.Command.{Command, Mkdir, Put, Rm, Mv, SetAttr, RmAttr, Grow}
 use Rattle.lfs_command.specs.Growth.{count_after, grown}
-use Rattle.lfs_command.specs.Supplies.{Supplies, AreFree, most_inline, new_body}
+use Rattle.lfs_command.specs.Supplies.{Supplies, AreFree, inline_limit, new_body}
 use Rattle.lfs_command.specs.Edited.{edited}
 use Rattle.lfs_command.specs.Cut.{cut}
 use Rattle.lfs_command.specs.Accepted.{IsAccepted, AreChosen}
@@ -28,7 +28,7 @@ use Rattle.lfs_law.specs.SuperblockBytes.{volume_bytes}
 -- a file's new contents are there
 abbrev pub NewIsThere : Reading → Volume → Command → Supplies → Type 0
 NewIsThere r v (Mkdir p) s = Unit {0}
-NewIsThere r v (Put p bytes) s = IsThere r (new_body v s bytes)
+NewIsThere r v (Put p bytes most) s = IsThere r (new_body v s bytes most)
 NewIsThere r v (Rm p) s = Unit {0}
 NewIsThere r v (Mv p q) s = Unit {0}
 NewIsThere r v (SetAttr p k value) s = Unit {0}
@@ -65,7 +65,7 @@ pub record LaysContents (d : Disk) (bytes blocks : List ℕ) (base : List Change
 -- the same of a command that puts a file's contents into blocks
 abbrev pub LaysNew : Disk → Volume → Command → Supplies → List Change → Type 0
 LaysNew d v (Mkdir p) s base = Unit {0}
-LaysNew d v (Put p bytes) s base = nat_le (length bytes) (most_inline v.size) ≡ false → LaysContents d bytes s.blocks base
+LaysNew d v (Put p bytes most) s base = nat_le (length bytes) (inline_limit v.size most) ≡ false → LaysContents d bytes s.blocks base
 LaysNew d v (Rm p) s base = Unit {0}
 LaysNew d v (Mv p q) s base = Unit {0}
 LaysNew d v (SetAttr p k value) s base = Unit {0}

@@ -31,19 +31,24 @@ ReadsNoFolder tree dir new why =
 
 -- ---- what is packed
 
--- what is below a folder at a path, without attributes
-abbrev pub packed_row : PathRow → Packed
-packed_row r = record { path = r.path; bytes = r.bytes; attributes = [] }
+-- what is below a folder at a path, with this bound for contents that stand in an entry, and without attributes
+abbrev pub packed_row : ℕ → PathRow → Packed
+packed_row most r = record { path = r.path; bytes = r.bytes; most = most; attributes = [] }
 
 -- rows say what is below a folder: all of it and nothing else, where the host is known
-pub record PacksFolder (tree : Option HostTree) (dir : List ℕ) (rows : List PackRow) : Type 0 where
+pub record PacksFolder (tree : Option HostTree) (dir : List ℕ) (most : ℕ) (rows : List PackRow) : Type 0 where
   pub shown : List PathRow
   pub ordered : AreFolderRows shown
   pub all : IfSome tree (λ t. AreAllBelow most_file t dir shown)
-  pub packed : AreRowsOf rows (map packed_row shown)
+  pub packed : AreRowsOf rows (map (packed_row most) shown)
 
 -- ---- rows, as the code has them
 
--- the text of a folder's row, without attributes
-abbrev pub text_of_folder_row : FolderRow → RowText
-text_of_folder_row row = record { text = row.path.items; bytes = option_map (λ b. b.items) row.bytes; attributes = [] }
+-- the text of a folder's row, with this bound and without attributes
+abbrev pub text_of_folder_row : ℕ → FolderRow → RowText
+text_of_folder_row most row = record {
+  text = row.path.items;
+  bytes = option_map (λ b. b.items) row.bytes;
+  most = most;
+  attributes = [];
+}

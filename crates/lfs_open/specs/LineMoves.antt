@@ -18,7 +18,7 @@ use Rattle.lfs_texts.specs.declared.script_line.ScriptLine.{ScriptLine}
 
 -- the contents that a step of a script puts: those of a file of the host
 abbrev pub HandsContents : Move Source → Option Files → List ℕ → Type 0
-HandsContents (Do (Put path (File name)) keep) files contents = ReadsFile files name.now most_file contents
+HandsContents (Do (Put path (File name) most) keep) files contents = ReadsFile files name.now most_file contents
 HandsContents _ files contents = contents ≡ []
 
 -- so much was read for a line

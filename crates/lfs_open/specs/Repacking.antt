@@ -48,14 +48,14 @@ IsExtentFor len size limits rows (Some extent) count = IsExtent size limits rows
 IsExtentFor len size limits rows None count = IsFilled size len count
 
 -- the rows of what an image holds are packed, with the limits that are said, and the others of that image
-pub record PacksSource (source : SourceImage) (extent : Option Extent) (said : SaidLimits) (size : ℕ) (files : Option Files) (count : ℕ)
+pub record PacksSource (source : SourceImage) (extent : Option Extent) (said : SaidLimits) (most size : ℕ) (files : Option Files) (count : ℕ)
     (limits : Limits) (rows : List PackRow) : Type 0 where
   pub image : List ℕ
   pub reads : ReadsSource source files image
   pub disk : IsDisk (image_of source.size image)
   pub mounted : MountedValue
   pub mount : IsMountOf (image_of source.size image) mounted
-  pub rows_are : AreRowsOf rows (all_packed (image_of source.size image) mounted.rows)
+  pub rows_are : AreRowsOf rows (all_packed most (image_of source.size image) mounted.rows)
   pub limits_are : limits ≡ limits_or said mounted.outline.limits
   pub count_is : IsExtentFor (length image) size limits rows extent count
 

@@ -38,24 +38,29 @@ fn fault_of_folder(fault: FolderFault) -> Fault
     }
 }
 
-/// A folder's row, as it is packed: without attributes.
-fn pack_row(row: &FolderRow) -> PackRow<'_>
-    ensures { pack_text result ≡ text_of_folder_row row.now }
+/// A folder's row, as it is packed: without attributes. A file stands in its entry if it has at most `most` bytes.
+fn pack_row(row: &FolderRow, most: u32) -> PackRow<'_>
+    ensures { pack_text result ≡ text_of_folder_row most row.now }
 {
     PackRow {
         path: row.path.as_slice(),
         bytes: row.bytes.as_deref(),
+        most,
         attributes: &[],
     }
 }
 
-/// A folder's rows, as they are packed.
-pub fn rows_to_pack(alloc: Global, folder: &[FolderRow]) -> Result<Vec<PackRow<'_>>, AllocError>
-    ensures { IfOk result (λ rows. map pack_text rows.items ≡ map text_of_folder_row folder.now) }
+/// A folder's rows, as they are packed. A file stands in its entry if it has at most `most` bytes.
+pub fn rows_to_pack(
+    alloc: Global,
+    folder: &[FolderRow],
+    most: u32,
+) -> Result<Vec<PackRow<'_>>, AllocError>
+    ensures { IfOk result (λ rows. map pack_text rows.items ≡ map (text_of_folder_row most) folder.now) }
 {
     let mut rows = Vec::new(alloc);
     'each: for row in folder {
-        rows.push(pack_row(row))?;
+        rows.push(pack_row(row, most))?;
     }
     Ok(rows)
 }

@@ -45,13 +45,13 @@ does_on v c taken blocks gone back o are returned does =
 -- the size alone says how many blocks contents take
 data_same : (v w : Volume) (c : Command) → v.size ≡ w.size → data_blocks v c ≡ data_blocks w c
 data_same v w (Mkdir p) same = refl
-data_same v w (Put p bytes) same = ap (λ (n : ℕ). data_blocks (record {
+data_same v w (Put p bytes most) same = ap (λ (n : ℕ). data_blocks (record {
   size = n;
   count = v.count;
   limits = v.limits;
   attributes = v.attributes;
   directories = v.directories;
-}) (Put p bytes)) same
+}) (Put p bytes most)) same
 data_same v w (Rm p) same = refl
 data_same v w (Mv p q) same = refl
 data_same v w (SetAttr p k value) same = refl

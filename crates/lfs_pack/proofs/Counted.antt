@@ -67,7 +67,7 @@ pub edited_counted : (m : ℕ) (v : Volume) (c : Command) (s : Supplies) → Kee
     → edited (with_count m v) c s ≡ with_count m (edited v c s)
 unfolding KeepsCount
 edited_counted m v (Mkdir p) s keeps = make_counted m v s.pair (parent_of v p)
-edited_counted m v (Put p bytes) s keeps = put_counted m v (new_body v s bytes) (parent_of v p) (entry_at v p)
+edited_counted m v (Put p bytes most) s keeps = put_counted m v (new_body v s bytes most) (parent_of v p) (entry_at v p)
 edited_counted m v (Rm p) s keeps = remove_counted m v (parent_of v p) (entry_at v p)
 edited_counted m v (Mv p q) s keeps = move_counted m v (parent_of v p) (parent_of v q) (entry_at v p)
 edited_counted m v (SetAttr p k value) s keeps = set_counted m v (set_attribute k value) (parent_of v p)
@@ -76,7 +76,7 @@ edited_counted m v (Grow n) s keeps = let one : n ≡ 0 = keeps 0 in let two : n
 
 data_counted : (m : ℕ) (v : Volume) (c : Command) → data_blocks (with_count m v) c ≡ data_blocks v c
 data_counted m v (Mkdir p) = refl
-data_counted m v (Put p bytes) = refl
+data_counted m v (Put p bytes most) = refl
 data_counted m v (Rm p) = refl
 data_counted m v (Mv p q) = refl
 data_counted m v (SetAttr p k value) = refl
@@ -92,7 +92,7 @@ need_counted m v c keeps =
 
 made_counted : (m : ℕ) (v : Volume) (c : Command) (s : Supplies) → blocks_made (with_count m v) c s ≡ blocks_made v c s
 made_counted m v (Mkdir p) s = refl
-made_counted m v (Put p bytes) s = refl
+made_counted m v (Put p bytes most) s = refl
 made_counted m v (Rm p) s = refl
 made_counted m v (Mv p q) s = refl
 made_counted m v (SetAttr p k value) s = refl

@@ -18,11 +18,11 @@ both_keep : (cs ds : List Command) → AllByRecursion KeepsCount cs → AllByRec
 both_keep [] ds first rest = rest
 both_keep (c ∷ cs) ds first rest = (first.0, both_keep cs ds first.1 rest)
 
-making_keeps : (p : Path) (bytes : Option (List ℕ)) → AllByRecursion KeepsCount (making p bytes)
+making_keeps : (p : Path) (bytes : Option (List ℕ)) (most : ℕ) → AllByRecursion KeepsCount (making p bytes most)
 unfolding KeepsCount
-making_keeps [] bytes = tt
-making_keeps (n ∷ p) None = (λ m. refl, tt)
-making_keeps (n ∷ p) (Some bytes) = (λ m. refl, tt)
+making_keeps [] bytes most = tt
+making_keeps (n ∷ p) None most = (λ m. refl, tt)
+making_keeps (n ∷ p) (Some bytes) most = (λ m. refl, tt)
 
 setting_keeps : (p : Path) (attributes : Attributes) → AllByRecursion KeepsCount (setting p attributes)
 unfolding KeepsCount
@@ -33,7 +33,7 @@ pub rows_keep : (rows : List Packed) → AllByRecursion KeepsCount (commands row
 rows_keep [] = tt
 rows_keep (r ∷ rows) =
     both_keep (row_commands r) (commands rows)
-    (both_keep (making r.path r.bytes) (setting r.path r.attributes) (making_keeps r.path r.bytes) (setting_keeps r.path r.attributes))
+    (both_keep (making r.path r.bytes r.most) (setting r.path r.attributes) (making_keeps r.path r.bytes r.most) (setting_keeps r.path r.attributes))
     (rows_keep rows)
 
 -- what such commands lead to has the same size, count and limits

@@ -93,8 +93,8 @@ attributes_kept : (chosen : Part → List Pair) (v : Volume) (c : Command) (s : 
     → IsSound (cut chosen (edited v c s)) → (p : Part) → Contains (thread (cut chosen (edited v c s)).directories) p → p.pair ≡ root
     → p.dirty ≡ false → (edited v c s).attributes ≡ v.attributes
 attributes_kept chosen v (Mkdir path) s row sound after p there is unset = make_attributes v s.pair (parent_of v path)
-attributes_kept chosen v (Put path bytes) s row sound after p there is unset =
-    put_attributes v (new_body v s bytes) (parent_of v path) (entry_at v path)
+attributes_kept chosen v (Put path bytes most) s row sound after p there is unset =
+    put_attributes v (new_body v s bytes most) (parent_of v path) (entry_at v path)
 attributes_kept chosen v (SetAttr path k value) s row sound after p there is unset =
     set_kept chosen v (set_attribute k value) (parent_of v path) sound after p there is unset
 attributes_kept chosen v (Rm path) s row sound after p there is unset = absurd row

@@ -30,7 +30,7 @@ use Rattle.lfs_command.specs.Freed.{freed_uses}
 use Rattle.lfs_command.specs.Growth.{count_after, grown}
 use Rattle.lfs_command.specs.Need.{data_blocks}
 use Rattle.lfs_command.specs.Planned.{CarriesOut, HasLaid}
-use Rattle.lfs_command.specs.Supplies.{Supplies, most_inline, supply_uses}
+use Rattle.lfs_command.specs.Supplies.{Supplies, inline_limit, supply_uses}
 use Rattle.lfs_law.specs.Laws.{CleansFollow, CutsFollow, UsesAfter}
 use Rattle.lfs_law.specs.OutlineLaws.{IsThere}
 use Rattle.lfs_law.specs.PlansHold.{content_blocks}
@@ -63,7 +63,7 @@ pub record GoingLaws : Type 0 where
 -- commands of rows keep the number of blocks
 pub same_count : (c : Command) (n : ℕ) → IsOfRow c → count_after c n ≡ n
 same_count (Mkdir p) n row = refl
-same_count (Put p bytes) n row = refl
+same_count (Put p bytes most) n row = refl
 same_count (SetAttr p k value) n row = refl
 same_count (Rm p) n row = absurd row
 same_count (Mv p q) n row = absurd row
@@ -74,7 +74,7 @@ same_count (Grow m) n row = absurd row
 made_pair : (Q : Pair → ℕ → Type 0) (v : Volume) (c : Command) (s : Supplies)
     → (1 ≤ supply_uses v c s s.pair.1 → times s.pair.1 (content_blocks v c s) ≡ 0 → Q s.pair 0) → OfNewPair Q c s
 made_pair Q v (Mkdir p) s new = new (second_used s.pair) refl
-made_pair Q v (Put p bytes) s new = tt
+made_pair Q v (Put p bytes most) s new = tt
 made_pair Q v (Rm p) s new = tt
 made_pair Q v (Mv p q) s new = tt
 made_pair Q v (SetAttr p k value) s new = tt
@@ -96,8 +96,8 @@ new_there found content f v (Mv p q) s disk size has many below apart = tt
 new_there found content f v (SetAttr p k value) s disk size has many below apart = tt
 new_there found content f v (RmAttr p k) s disk size has many below apart = tt
 new_there found content f v (Grow n) s disk size has many below apart = tt
-new_there found content f v (Put p bytes) s disk size has many below apart =
-    body_by (reading_of f) bytes s.blocks (nat_le (length bytes) (most_inline v.size)) (λ chain.
+new_there found content f v (Put p bytes most) s disk size has many below apart =
+    body_by (reading_of f) bytes s.blocks (nat_le (length bytes) (inline_limit v.size most)) (λ chain.
     let count : length s.blocks ≡ least_blocks v.size (length bytes) =
     many ∙ ap (λ (t : Bool). if t then 0 else least_blocks v.size (length bytes)) chain in
     let is : IsLaid f (head_of s.blocks) bytes s.blocks = record {

@@ -163,7 +163,7 @@ OfNewPair Q _ s = Unit {0}
 edited_known : (Q : Pair → ℕ → Type 0) (v : Volume) (c : Command) (s : Supplies) → IsOfRow c → OfNewPair Q c s
     → All (Known Q) (thread v.directories) → All (Known Q) (thread (edited v c s).directories)
 edited_known Q v (Mkdir p) s row new all = make_known Q v s.pair (parent_of v p) new all
-edited_known Q v (Put p bytes) s row new all = put_known Q v (new_body v s bytes) (parent_of v p) (entry_at v p) all
+edited_known Q v (Put p bytes most) s row new all = put_known Q v (new_body v s bytes most) (parent_of v p) (entry_at v p) all
 edited_known Q v (Rm p) s row new all = absurd row
 edited_known Q v (Mv p q) s row new all = absurd row
 edited_known Q v (SetAttr p k value) s row new all = set_known Q v (set_attribute k value) (parent_of v p) all

@@ -14,7 +14,7 @@ use Rattle.lfs_fs.specs.Volume.{Volume}
 use Rattle.lfs_command.specs.Command.{Command, Put}
 use Rattle.lfs_command.specs.Need.{data_blocks}
 use Rattle.lfs_command.specs.Planned.{HasLaid}
-use Rattle.lfs_command.specs.Supplies.{Supplies, most_inline}
+use Rattle.lfs_command.specs.Supplies.{Supplies, inline_limit}
 use Rattle.lfs_law.specs.PlansHold.{content_blocks}
 
 -- a command's contents are laid, and other blocks are as they were
@@ -35,29 +35,29 @@ nothing_but : (blocks : List ℕ) (d : Disk) → IsDisk d → IsDiskBut blocks d
 nothing_but blocks d disk = record { disk = record { disk = disk; size = refl; count = refl }; others = λ b none. refl }
 
 -- they stand in the entry
-pub short_laid : (c : Command) (p : Path) (bytes : List ℕ) (d : Disk) (v : Volume) (s : Supplies) → IsDisk d → c ≡ Put p bytes
-    → length bytes ≤ most_inline d.size → v.size ≡ d.size → AreLaid v c s d d
-short_laid c p bytes d v s disk is short size = subst (λ (k : Command). AreLaid v k s d d) (sym is) (record {
-  laid = λ long. absurd (both_ways (nat_le (length bytes) (most_inline v.size)) inside long);
-  others = nothing_but (content_blocks v (Put p bytes) s) d disk;
+pub short_laid : (c : Command) (p : Path) (bytes : List ℕ) (most : ℕ) (d : Disk) (v : Volume) (s : Supplies) → IsDisk d → c ≡ Put p bytes most
+    → length bytes ≤ inline_limit d.size most → v.size ≡ d.size → AreLaid v c s d d
+short_laid c p bytes most d v s disk is short size = subst (λ (k : Command). AreLaid v k s d d) (sym is) (record {
+  laid = λ long. absurd (both_ways (nat_le (length bytes) (inline_limit v.size most)) inside long);
+  others = nothing_but (content_blocks v (Put p bytes most) s) d disk;
 })
   where
-    inside : nat_le (length bytes) (most_inline v.size) ≡ true
-    inside = ap (λ (n : ℕ). nat_le (length bytes) (most_inline n)) size ∙ in_entry (length bytes) (most_inline d.size) short
+    inside : nat_le (length bytes) (inline_limit v.size most) ≡ true
+    inside = ap (λ (n : ℕ). nat_le (length bytes) (inline_limit n most)) size ∙ in_entry (length bytes) (inline_limit d.size most) short
 
 -- they take so many blocks
-long_takes : (c : Command) (p : Path) (bytes : List ℕ) (size : ℕ) (v : Volume) → c ≡ Put p bytes → most_inline size < length bytes
+long_takes : (c : Command) (p : Path) (bytes : List ℕ) (most size : ℕ) (v : Volume) → c ≡ Put p bytes most → inline_limit size most < length bytes
     → v.size ≡ size → data_blocks v c ≡ least_blocks size (length bytes)
-long_takes c p bytes size v is long same =
+long_takes c p bytes most size v is long same =
     ap (data_blocks v) is
-    ∙ ap (λ (n : ℕ). if nat_le (length bytes) (most_inline n) then 0 else least_blocks n (length bytes)) same
-    ∙ ap (λ (t : Bool). if t then 0 else least_blocks size (length bytes)) (in_blocks (length bytes) (most_inline size) long)
+    ∙ ap (λ (n : ℕ). if nat_le (length bytes) (inline_limit n most) then 0 else least_blocks n (length bytes)) same
+    ∙ ap (λ (t : Bool). if t then 0 else least_blocks size (length bytes)) (in_blocks (length bytes) (inline_limit size most) long)
 
-pub many_blocks : (c : Command) (p : Path) (bytes : List ℕ) (size n : ℕ) → c ≡ Put p bytes → most_inline size < length bytes
+pub many_blocks : (c : Command) (p : Path) (bytes : List ℕ) (most size n : ℕ) → c ≡ Put p bytes most → inline_limit size most < length bytes
     → ((v : Volume) → v.size ≡ size → n ≡ data_blocks v c) → n ≡ least_blocks size (length bytes)
-many_blocks c p bytes size n is long many =
+many_blocks c p bytes most size n is long many =
     let v : Volume = empty_volume size 0 new_limits [] in
-    many v refl ∙ long_takes c p bytes size v is long refl
+    many v refl ∙ long_takes c p bytes most size v is long refl
 
 pub enough_at_hand : (c : Command) (blocks : List ℕ) (size n : ℕ) → ((v : Volume) → v.size ≡ size → data_blocks v c ≤ length blocks)
     → ((v : Volume) → v.size ≡ size → n ≡ data_blocks v c) → n ≤ length blocks
@@ -73,11 +73,11 @@ rises_so_far n bs rise i j d less within =
     let all : get_or bs i d < get_or bs j d = rise i j d less (omega (arith, within, fits)) in
     omega (arith, before, behind, all)
 
-pub long_laid : (c : Command) (p : Path) (bytes blocks : List ℕ) (n : ℕ) (d e : Disk) (v : Volume) (s : Supplies) → c ≡ Put p bytes
-    → most_inline d.size < length bytes → ((x : Volume) → x.size ≡ d.size → n ≡ data_blocks x c) → v.size ≡ d.size
+pub long_laid : (c : Command) (p : Path) (bytes blocks : List ℕ) (most n : ℕ) (d e : Disk) (v : Volume) (s : Supplies) → c ≡ Put p bytes most
+    → inline_limit d.size most < length bytes → ((x : Volume) → x.size ≡ d.size → n ≡ data_blocks x c) → v.size ≡ d.size
     → s.blocks ≡ take (data_blocks v c) blocks → map (block_of e) (take n blocks) ≡ laid d.size bytes (take n blocks)
     → IsDiskBut (take n blocks) d e → AreLaid v c s d e
-long_laid c p bytes blocks n d e v s is long many size taken has but = subst (λ (k : Command). AreLaid v k s d e) (sym is) (record {
+long_laid c p bytes blocks most n d e v s is long many size taken has but = subst (λ (k : Command). AreLaid v k s d e) (sym is) (record {
   laid = λ outside. ap (map (block_of e)) here ∙ has ∙ ap (laid d.size bytes) (sym here)
       ∙ ap (λ (k : ℕ). laid k bytes s.blocks) (sym but.disk.size);
   others = subst (λ (bs : List ℕ). IsDiskBut bs d e) (sym (content ∙ here)) but;
@@ -86,6 +86,6 @@ long_laid c p bytes blocks n d e v s is long many size taken has but = subst (λ
     here : s.blocks ≡ take n blocks
     here = taken ∙ ap (λ (k : ℕ). take k blocks) (sym (many v size))
 
-    content : (if nat_le (length bytes) (most_inline v.size) then [] else s.blocks) ≡ s.blocks
+    content : (if nat_le (length bytes) (inline_limit v.size most) then [] else s.blocks) ≡ s.blocks
     content = ap (λ (t : Bool). if t then [] else s.blocks)
-        (ap (λ (k : ℕ). nat_le (length bytes) (most_inline k)) size ∙ in_blocks (length bytes) (most_inline d.size) long)
+        (ap (λ (k : ℕ). nat_le (length bytes) (inline_limit k most)) size ∙ in_blocks (length bytes) (inline_limit d.size most) long)

@@ -44,7 +44,7 @@ use Rattle.lfs_pack.proofs.NoneFreed.{IsParted, LeadOn, all_on, parted, sound_on
 checks_counted : (m : ℕ) (v : Volume) (c : Command) → KeepsCount c → checks (with_count m v) c ≡ checks v c
 unfolding KeepsCount
 checks_counted m v (Mkdir p) keeps = refl
-checks_counted m v (Put p bytes) keeps = refl
+checks_counted m v (Put p bytes most) keeps = refl
 checks_counted m v (Rm p) keeps = refl
 checks_counted m v (Mv p q) keeps = refl
 checks_counted m v (SetAttr p k value) keeps = refl

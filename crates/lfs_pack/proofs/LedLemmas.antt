@@ -131,19 +131,19 @@ root_by : (old : Path → Option Node) (q : Path) → old [] ≡ Some (Dir []) �
 root_by old [] is = is
 root_by old (n ∷ q) is = refl
 
-make_one : CarriedFollow → (p : Path) (bytes : Option (List ℕ)) (cs : List Command) (v w : Volume) (old : Path → Option Node)
-    → CanStand old p bytes → ((q : Path) → tree v q ≡ old q) → Lead (making p bytes ++ cs) v w → IsMade p bytes old cs w
-make_one follow [] None cs v w old can is led = record { volume = v; led = led; at = λ q. is q ∙ root_by old q can.1 }
-make_one follow [] (Some bytes) cs v w old can is led = absurd (cc)
-make_one follow (n ∷ p) None cs v w old can is (u, does, led) = record {
+make_one : CarriedFollow → (p : Path) (bytes : Option (List ℕ)) (most : ℕ) (cs : List Command) (v w : Volume) (old : Path → Option Node)
+    → CanStand old p bytes → ((q : Path) → tree v q ≡ old q) → Lead (making p bytes most ++ cs) v w → IsMade p bytes old cs w
+make_one follow [] None most cs v w old can is led = record { volume = v; led = led; at = λ q. is q ∙ root_by old q can.1 }
+make_one follow [] (Some bytes) most cs v w old can is led = absurd (cc)
+make_one follow (n ∷ p) None most cs v w old can is (u, does, led) = record {
   volume = u;
   led = led;
   at = λ q. (follow (Mkdir (n ∷ p)) v u does).at q ∙ put_like (n ∷ p) (Some (Dir [])) (Some (Dir [])) old (tree v) refl is q;
 }
-make_one follow (n ∷ p) (Some bytes) cs v w old can is (u, does, led) = record {
+make_one follow (n ∷ p) (Some bytes) most cs v w old can is (u, does, led) = record {
   volume = u;
   led = led;
-  at = λ q. (follow (Put (n ∷ p) bytes) v u does).at q
+  at = λ q. (follow (Put (n ∷ p) bytes most) v u does).at q
       ∙ put_like (n ∷ p) (Some (File bytes (attributes_at (tree v (n ∷ p))))) (Some (File bytes [])) old (tree v)
       (ap (λ (x : Option Node). Some (File bytes (attributes_at x))) (is (n ∷ p) ∙ can)) is q;
 }
@@ -244,7 +244,7 @@ split_led (c ∷ cs) ds v w (u, does, led) =
 pub row_led : CarriedFollow → (r : Packed) (v w : Volume) (old : Path → Option Node) → CanStand old r.path r.bytes
     → KindsRise r.attributes → ((q : Path) → tree v q ≡ old q) → Lead (row_commands r) v w → (q : Path) → tree w q ≡ with_row r old q
 row_led follow r v w old can kinds is led =
-    let made = make_one follow r.path r.bytes (setting r.path r.attributes) v w old can is led in
+    let made = make_one follow r.path r.bytes r.most (setting r.path r.attributes) v w old can is led in
     set_all follow r.path r.bytes [] r.attributes made.volume w old (all_before_none r.attributes) kinds made.at made.led
 
 rows_led : CarriedFollow → PathsAreOrdered → (rs : List Packed) (v w : Volume) (old : Path → Option Node) → AllCanStand old rs → PackedRise rs

@@ -45,20 +45,20 @@ setting_on p [] v w led = led
 setting_on p (a ∷ more) v w (u, does, led) = (u, does, λ b. refl, setting_on p more u w led)
 
 -- a file that is put where nothing is frees none
-none_freed : (v : Volume) (p : Path) (bytes : List ℕ) → tree v p ≡ None → (b : ℕ) → freed_uses v (Put p bytes) b ≡ 0
-none_freed v p bytes none b = by (entry_at v p) none
+none_freed : (v : Volume) (p : Path) (bytes : List ℕ) (most : ℕ) → tree v p ≡ None → (b : ℕ) → freed_uses v (Put p bytes most) b ≡ 0
+none_freed v p bytes most none b = by (entry_at v p) none
   where
     by : (o : Option Entry) → option_map node o ≡ None → unwrap_or (option_map (entry_uses b) o) 0 ≡ 0
     by None is = refl
     by (Some e) is = absurd (cc)
 
-row_on : (p : Path) (bytes : Option (List ℕ)) (a : Attributes) (v w : Volume) (old : Path → Option Node) → CanStand old p bytes
-    → ((q : Path) → tree v q ≡ old q) → Lead (making p bytes ++ setting p a) v w → LeadOn (making p bytes ++ setting p a) v w
-row_on [] None a v w old can is led = setting_on [] a v w led
-row_on [] (Some bytes) a v w old can is led = absurd (cc)
-row_on (n ∷ p) None a v w old can is (u, does, led) = (u, does, λ b. refl, setting_on (n ∷ p) a u w led)
-row_on (n ∷ p) (Some bytes) a v w old can is (u, does, led) =
-    (u, does, none_freed v (n ∷ p) bytes (is (n ∷ p) ∙ can), setting_on (n ∷ p) a u w led)
+row_on : (p : Path) (bytes : Option (List ℕ)) (most : ℕ) (a : Attributes) (v w : Volume) (old : Path → Option Node) → CanStand old p bytes
+    → ((q : Path) → tree v q ≡ old q) → Lead (making p bytes most ++ setting p a) v w → LeadOn (making p bytes most ++ setting p a) v w
+row_on [] None most a v w old can is led = setting_on [] a v w led
+row_on [] (Some bytes) most a v w old can is led = absurd (cc)
+row_on (n ∷ p) None most a v w old can is (u, does, led) = (u, does, λ b. refl, setting_on (n ∷ p) a u w led)
+row_on (n ∷ p) (Some bytes) most a v w old can is (u, does, led) =
+    (u, does, none_freed v (n ∷ p) bytes most (is (n ∷ p) ∙ can), setting_on (n ∷ p) a u w led)
 
 -- ---- all rows
 
@@ -69,7 +69,7 @@ rows_on follow order [] v w old can rise kinds is led = led
 rows_on follow order (r ∷ rs) v w old can rise kinds is led =
     let parts = split_led (row_commands r) (commands rs) v w led in
     let here = All-head (λ (s : Packed). CanStand old s.path s.bytes) r rs can in
-    both_on (row_commands r) (commands rs) v parts.middle w (row_on r.path r.bytes r.attributes v parts.middle old here is parts.first)
+    both_on (row_commands r) (commands rs) v parts.middle w (row_on r.path r.bytes r.most r.attributes v parts.middle old here is parts.first)
     (rows_on follow order rs parts.middle w (with_row r old)
     (others_stand r rs old (lacking order r.path rs rise.0) (All-tail (λ (s : Packed). CanStand old s.path s.bytes) r rs can)) rise.1
     (All-tail (λ (s : Packed). KindsRise s.attributes) r rs kinds)

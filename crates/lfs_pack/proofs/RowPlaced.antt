@@ -16,44 +16,44 @@ use Rattle.lfs_pack.specs.Unwritten.{IsOfRow}
 use Rattle.lfs_pack.proofs.LedOn.{one_stopped}
 
 -- below the root there is one command
-making_one : (p : Path) (bytes : Option (List ℕ)) → (p ≡ [] → ⊥) → making p bytes ≡ made_by p bytes ∷ []
-making_one [] bytes below = absurd (below refl)
-making_one (n ∷ p) None below = refl
-making_one (n ∷ p) (Some bytes) below = refl
+making_one : (p : Path) (bytes : Option (List ℕ)) (most : ℕ) → (p ≡ [] → ⊥) → making p bytes most ≡ made_by p bytes most ∷ []
+making_one [] bytes most below = absurd (below refl)
+making_one (n ∷ p) None most below = refl
+making_one (n ∷ p) (Some bytes) most below = refl
 
 -- nothing is made at the root
-pub root_placed : (text : List ℕ) (p : Path) (bytes : Option (List ℕ)) (t : NewImage) → IsPathText text p → p ≡ [] → Places text bytes t t
-root_placed text p bytes t spelled root v at =
-    (p, spelled, v, subst (λ (x : Path). Lead (making x bytes) v v) (sym root) refl, at)
+pub root_placed : (text : List ℕ) (p : Path) (bytes : Option (List ℕ)) (most : ℕ) (t : NewImage) → IsPathText text p → p ≡ [] → Places text bytes most t t
+root_placed text p bytes most t spelled root v at =
+    (p, spelled, v, subst (λ (x : Path). Lead (making x bytes most) v v) (sym root) refl, at)
 
-pub placed : (text : List ℕ) (p : Path) (bytes : Option (List ℕ)) (t u : NewImage) → IsPathText text p → (p ≡ [] → ⊥)
-    → CarriesOn (made_by p bytes) t u → Places text bytes t u
-placed text p bytes t u spelled below carries v at =
+pub placed : (text : List ℕ) (p : Path) (bytes : Option (List ℕ)) (most : ℕ) (t u : NewImage) → IsPathText text p → (p ≡ [] → ⊥)
+    → CarriesOn (made_by p bytes most) t u → Places text bytes most t u
+placed text p bytes most t u spelled below carries v at =
     let one = carries v at in
-    (p, spelled, one.0, subst (λ (cs : List Command). Lead cs v one.0) (sym (making_one p bytes below)) (one.0, one.1, refl), one.2)
+    (p, spelled, one.0, subst (λ (cs : List Command). Lead cs v one.0) (sym (making_one p bytes most below)) (one.0, one.1, refl), one.2)
 
-pub not_placed : TextsSpellOnePath → (text : List ℕ) (p : Path) (bytes : Option (List ℕ)) (t : NewImage) (r : Refusal) → IsPathText text p
-    → (p ≡ [] → ⊥) → RefusesOn (made_by p bytes) t r → RefusesPlace text bytes t r
-not_placed texts text p bytes t r spelled below (inl memory) = inl memory
-not_placed texts text p bytes t r spelled below (inr refuses) = inr (λ v o at other.
-    subst (λ (x : Path). AreStopped (making x bytes) v r) (sym (texts text o p other spelled))
-    (subst (λ (cs : List Command). AreStopped cs v r) (sym (making_one p bytes below)) (one_stopped (made_by p bytes) [] v r (refuses v at))))
+pub not_placed : TextsSpellOnePath → (text : List ℕ) (p : Path) (bytes : Option (List ℕ)) (most : ℕ) (t : NewImage) (r : Refusal) → IsPathText text p
+    → (p ≡ [] → ⊥) → RefusesOn (made_by p bytes most) t r → RefusesPlace text bytes most t r
+not_placed texts text p bytes most t r spelled below (inl memory) = inl memory
+not_placed texts text p bytes most t r spelled below (inr refuses) = inr (λ v o at other.
+    subst (λ (x : Path). AreStopped (making x bytes most) v r) (sym (texts text o p other spelled))
+    (subst (λ (cs : List Command). AreStopped cs v r) (sym (making_one p bytes most below)) (one_stopped (made_by p bytes most) [] v r (refuses v at))))
 
 -- a text that spells no path isn't that of a row
-pub not_spelled : (text : List ℕ) (bytes : Option (List ℕ)) (t : NewImage) (r : Refusal) → (r ≡ Memory) ⊎ ((r ≡ BadPath) × IsNoPath text)
-    → RefusesPlace text bytes t r
-not_spelled text bytes t r (inl memory) = inl memory
-not_spelled text bytes t r (inr refused) = inr (λ v p at spelled. absurd (refused.1 p spelled))
+pub not_spelled : (text : List ℕ) (bytes : Option (List ℕ)) (most : ℕ) (t : NewImage) (r : Refusal) → (r ≡ Memory) ⊎ ((r ≡ BadPath) × IsNoPath text)
+    → RefusesPlace text bytes most t r
+not_spelled text bytes most t r (inl memory) = inl memory
+not_spelled text bytes most t r (inr refused) = inr (λ v p at spelled. absurd (refused.1 p spelled))
 
 -- ---- the command
 
-pub made_of_row : (p : Path) (bytes : Option (List ℕ)) → IsOfRow (made_by p bytes)
-made_of_row p None = tt
-made_of_row p (Some bytes) = tt
+pub made_of_row : (p : Path) (bytes : Option (List ℕ)) (most : ℕ) → IsOfRow (made_by p bytes most)
+made_of_row p None most = tt
+made_of_row p (Some bytes) most = tt
 
-pub made_has_names : (p : Path) (bytes : Option (List ℕ)) → All IsName p → HasNames (made_by p bytes)
-made_has_names p None names = All-cons (All IsName) p [] names (All-nil (All IsName))
-made_has_names p (Some bytes) names = All-cons (All IsName) p [] names (All-nil (All IsName))
+pub made_has_names : (p : Path) (bytes : Option (List ℕ)) (most : ℕ) → All IsName p → HasNames (made_by p bytes most)
+made_has_names p None most names = All-cons (All IsName) p [] names (All-nil (All IsName))
+made_has_names p (Some bytes) most names = All-cons (All IsName) p [] names (All-nil (All IsName))
 
 pub set_has_names : (p : Path) (kind : ℕ) (value : List ℕ) → All IsName p → HasNames (SetAttr p kind value)
 set_has_names p kind value names = All-cons (All IsName) p [] names (All-nil (All IsName))

@@ -20,51 +20,52 @@ use Rattle.lfs_pack.specs.Packed.{BeginAtRoot, KindsRise, Packed, PackedRise}
 use Rattle.lfs_pack.specs.RepackLaws.{RowsArePackable}
 use Rattle.lfs_pack.specs.Repacked.{all_packed, packed_of}
 
-kinds_rise : (limit : ℕ) (a : Attributes) → AreAttributes limit a → KindsRise a
-kinds_rise limit [] are = tt
-kinds_rise limit (x ∷ more) are = (are.1, kinds_rise limit more are.2)
+module _ (most : ℕ) where
+  kinds_rise : (limit : ℕ) (a : Attributes) → AreAttributes limit a → KindsRise a
+  kinds_rise limit [] are = tt
+  kinds_rise limit (x ∷ more) are = (are.1, kinds_rise limit more are.2)
 
--- the kinds of an entry of a sound volume rise
-kinds_at : (v : Volume) → IsSound v → (p : Path) (e : Entry) → entry_at v p ≡ Some e → KindsRise e.attributes
-kinds_at v sound =
-    by_last_name (λ (p : Path). (e : Entry) → entry_at v p ≡ Some e → KindsRise e.attributes)
-    (λ e there. subst (λ (x : Entry). KindsRise x.attributes) (same_Some (top v) e there)
-    (kinds_rise v.limits.attribute v.attributes sound.root_attributes))
-    (λ p n above e there.
-    kinds_rise v.limits.attribute e.attributes (proper_below v sound p n e (stands_below v p n e there)).attributes)
+  -- the kinds of an entry of a sound volume rise
+  kinds_at : (v : Volume) → IsSound v → (p : Path) (e : Entry) → entry_at v p ≡ Some e → KindsRise e.attributes
+  kinds_at v sound =
+      by_last_name (λ (p : Path). (e : Entry) → entry_at v p ≡ Some e → KindsRise e.attributes)
+      (λ e there. subst (λ (x : Entry). KindsRise x.attributes) (same_Some (top v) e there)
+      (kinds_rise v.limits.attribute v.attributes sound.root_attributes))
+      (λ p n above e there.
+      kinds_rise v.limits.attribute e.attributes (proper_below v sound p n e (stands_below v p n e there)).attributes)
 
--- no path comes before the root's
-not_before : (p : Path) → path_precedes p [] ≡ true → ⊥
-not_before [] before = cc
-not_before (n ∷ p) before = cc
+  -- no path comes before the root's
+  not_before : (p : Path) → path_precedes p [] ≡ true → ⊥
+  not_before [] before = cc
+  not_before (n ∷ p) before = cc
 
--- the root's row is the first
-begins : (d : Disk) (v : Volume) (rows : List Row) → RowsRise rows → Contains rows (record { path = []; entry = top v })
-    → BeginAtRoot (all_packed d rows)
-begins d v [] rise there = contains_none (record { path = []; entry = top v }) there
-begins d v (r ∷ rows) rise there =
-    elim (contains_cases r rows (record { path = []; entry = top v }) there) [
-      | inl same ↦ subst (λ (x : Row). BeginAtRoot (all_packed d (x ∷ rows))) same (refl, refl)
-      | inr later ↦
-          absurd (not_before r.path
-          (All-contains (λ (s : Row). path_precedes r.path s.path ≡ true) rows (record { path = []; entry = top v }) rise.0 later))
-    ]
+  -- the root's row is the first
+  begins : (d : Disk) (v : Volume) (rows : List Row) → RowsRise rows → Contains rows (record { path = []; entry = top v })
+      → BeginAtRoot (all_packed most d rows)
+  begins d v [] rise there = contains_none (record { path = []; entry = top v }) there
+  begins d v (r ∷ rows) rise there =
+      elim (contains_cases r rows (record { path = []; entry = top v }) there) [
+        | inl same ↦ subst (λ (x : Row). BeginAtRoot (all_packed most d (x ∷ rows))) same (refl, refl)
+        | inr later ↦
+            absurd (not_before r.path
+            (All-contains (λ (s : Row). path_precedes r.path s.path ≡ true) rows (record { path = []; entry = top v }) rise.0 later))
+      ]
 
-packed_rise : (d : Disk) (rows : List Row) → RowsRise rows → PackedRise (all_packed d rows)
-packed_rise d [] rise = tt
-packed_rise d (r ∷ rows) rise =
-    (All-map (λ (s : Packed). path_precedes r.path s.path ≡ true) (packed_of d) rows rise.0, packed_rise d rows rise.1)
+  packed_rise : (d : Disk) (rows : List Row) → RowsRise rows → PackedRise (all_packed most d rows)
+  packed_rise d [] rise = tt
+  packed_rise d (r ∷ rows) rise =
+      (All-map (λ (s : Packed). path_precedes r.path s.path ≡ true) (packed_of most d) rows rise.0, packed_rise d rows rise.1)
 
 pub rows_are_packable : OutlinesAreSound → RowsArePackable
-rows_are_packable outlines d m is =
+rows_are_packable outlines most d m is =
     let sound : IsSound m.outline = subst IsSound (sym is.outline) (outlines is.volume is.sound) in
     record {
-      root = begins d m.outline m.rows is.rows.rise (is.rows.complete [] (top m.outline) refl);
-      rise = packed_rise d m.rows is.rows.rise;
-      names = All-map (λ (x : Packed). All IsName x.path) (packed_of d) m.rows
+      root = begins most d m.outline m.rows is.rows.rise (is.rows.complete [] (top m.outline) refl);
+      rise = packed_rise most d m.rows is.rows.rise;
+      names = All-map (λ (x : Packed). All IsName x.path) (packed_of most d) m.rows
           (All-weaker (λ (r : Row). entry_at m.outline r.path ≡ Some r.entry) (λ (r : Row). All IsName r.path)
           (λ r there. names_of_path m.outline sound r.path r.entry there) m.rows is.rows.right);
-      kinds = All-map (λ (x : Packed). KindsRise x.attributes) (packed_of d) m.rows
+      kinds = All-map (λ (x : Packed). KindsRise x.attributes) (packed_of most d) m.rows
           (All-weaker (λ (r : Row). entry_at m.outline r.path ≡ Some r.entry) (λ (r : Row). KindsRise r.entry.attributes)
-          (λ r there. kinds_at m.outline sound r.path r.entry there) m.rows is.rows.right);
+          (λ r there. kinds_at most m.outline sound r.path r.entry there) m.rows is.rows.right);
     }

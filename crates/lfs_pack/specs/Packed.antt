@@ -12,10 +12,11 @@ use Rattle.lfs_command.specs.Command.{Command, Mkdir, Put, SetAttr}
 use Rattle.lfs_command.specs.PathMap.{same_path}
 use Rattle.lfs_pack.specs.declared.pack_row.PackRow.{PackRow}
 
--- a directory, or a file with these bytes, and attributes
+-- a directory, or a file with these bytes, which stand in its entry if there are at most so many, and attributes
 pub record Packed : Type 0 where
   pub path : Path
   pub bytes : Option (List ℕ)
+  pub most : ℕ
   pub attributes : Attributes
 
 -- ---- what the rows say
@@ -33,15 +34,15 @@ packed_at (r ∷ rs) p = if same_path r.path p then Some (packed_node r.bytes r.
 -- ---- the commands that make it
 
 -- what is there at a path is made: a directory, or a file's contents are put; the root is there
-abbrev pub making : Path → Option (List ℕ) → List Command
-making [] bytes = []
-making (n ∷ p) None = Mkdir (n ∷ p) ∷ []
-making (n ∷ p) (Some bytes) = Put (n ∷ p) bytes ∷ []
+abbrev pub making : Path → Option (List ℕ) → ℕ → List Command
+making [] bytes most = []
+making (n ∷ p) None most = Mkdir (n ∷ p) ∷ []
+making (n ∷ p) (Some bytes) most = Put (n ∷ p) bytes most ∷ []
 
 -- the command that makes it, below the root
-abbrev pub made_by : Path → Option (List ℕ) → Command
-made_by p None = Mkdir p
-made_by p (Some bytes) = Put p bytes
+abbrev pub made_by : Path → Option (List ℕ) → ℕ → Command
+made_by p None most = Mkdir p
+made_by p (Some bytes) most = Put p bytes most
 
 -- its attributes are set, one after another
 abbrev pub setting : Path → Attributes → List Command
@@ -49,7 +50,7 @@ setting p attributes = map (λ (a : ℕ × List ℕ). SetAttr p a.0 a.1) attribu
 
 -- both, of a row
 abbrev pub row_commands : Packed → List Command
-row_commands r = making r.path r.bytes ++ setting r.path r.attributes
+row_commands r = making r.path r.bytes r.most ++ setting r.path r.attributes
 
 -- and of all rows
 abbrev pub commands : List Packed → List Command
@@ -93,6 +94,7 @@ row_bytes row = option_map (λ b. b.now) row.bytes
 pub record IsRowOf (row : PackRow) (r : Packed) : Type 0 where
   pub path : IsPathText row.path.now r.path
   pub bytes : row_bytes row ≡ r.bytes
+  pub most : row.most ≡ r.most
   pub attributes : map attribute_of row.attributes.now ≡ r.attributes
 
 -- the rows say what is packed, as `pack` takes it

@@ -13,17 +13,17 @@ use Rattle.lfs_pack.specs.RowText.{pack_text, packed_text}
 
 -- the law: the map of what a mounted image's rows are packed as is its tree
 abbrev pub RowsPackToTheirTree : Type 0
-RowsPackToTheirTree = (d : Disk) (m : MountedValue) (is : IsMountOf d m) (p : Path) → IsDisk d
-    → packed_at (all_packed d m.rows) p ≡ tree is.volume p
+RowsPackToTheirTree = (most : ℕ) (d : Disk) (m : MountedValue) (is : IsMountOf d m) (p : Path) → IsDisk d
+    → packed_at (all_packed most d m.rows) p ≡ tree is.volume p
 
 -- the law: an image that is packed of them holds a volume of that tree
 abbrev pub PackedImagesHoldTheTree : Type 0
-PackedImagesHoldTheTree = (d : Disk) (m : MountedValue) (is : IsMountOf d m) (size count : ℕ) (limits : Limits) (bytes : List ℕ)
-    (packed : IsPacked size count limits (all_packed d m.rows) bytes) (p : Path) → IsDisk d → tree packed.volume p ≡ tree is.volume p
+PackedImagesHoldTheTree = (most : ℕ) (d : Disk) (m : MountedValue) (is : IsMountOf d m) (size count : ℕ) (limits : Limits) (bytes : List ℕ)
+    (packed : IsPacked size count limits (all_packed most d m.rows) bytes) (p : Path) → IsDisk d → tree packed.volume p ≡ tree is.volume p
 
 -- the law: they can be packed
 abbrev pub RowsArePackable : Type 0
-RowsArePackable = (d : Disk) (m : MountedValue) → IsMountOf d m → ArePackable (all_packed d m.rows)
+RowsArePackable = (most : ℕ) (d : Disk) (m : MountedValue) → IsMountOf d m → ArePackable (all_packed most d m.rows)
 
 -- the law: rows that have the texts of what can be packed are rows of it
 abbrev pub RowsAreOfTheirTexts : Type 0

@@ -11,9 +11,9 @@ abbrev pub node_bytes : Node → Option (List ℕ)
 node_bytes (File bytes attributes) = Some bytes
 node_bytes (Dir attributes) = None
 
--- what a row is packed as: what it shows on the disk, at its path, with its attributes
-abbrev pub packed_of : Disk → Row → Packed
-packed_of d r = record { path = r.path; bytes = node_bytes (shown_node d r.entry); attributes = r.entry.attributes }
+-- what a row is packed as: what it shows on the disk, at its path, with its attributes and this bound
+abbrev pub packed_of : ℕ → Disk → Row → Packed
+packed_of most d r = record { path = r.path; bytes = node_bytes (shown_node d r.entry); most = most; attributes = r.entry.attributes }
 
-abbrev pub all_packed : Disk → List Row → List Packed
-all_packed d rows = map (packed_of d) rows
+abbrev pub all_packed : ℕ → Disk → List Row → List Packed
+all_packed most d rows = map (packed_of most d) rows

@@ -59,12 +59,12 @@ RefusesAll text attributes t r = (r ≡ Memory)
 -- ---- rows
 
 -- what stands at a row's path is made
-abbrev pub Places : List ℕ → Option (List ℕ) → NewImage → NewImage → Type 0
-Places text bytes t u = (v : Volume) → IsAtWork t v → (p : Path) × IsPathText text p × (w : Volume) × Lead (making p bytes) v w × IsAtWork u w
+abbrev pub Places : List ℕ → Option (List ℕ) → ℕ → NewImage → NewImage → Type 0
+Places text bytes most t u = (v : Volume) → IsAtWork t v → (p : Path) × IsPathText text p × (w : Volume) × Lead (making p bytes most) v w × IsAtWork u w
 
 -- or not, or memory is refused
-abbrev pub RefusesPlace : List ℕ → Option (List ℕ) → NewImage → Refusal → Type 0
-RefusesPlace text bytes t r = (r ≡ Memory) ⊎ ((v : Volume) (p : Path) → IsAtWork t v → IsPathText text p → AreStopped (making p bytes) v r)
+abbrev pub RefusesPlace : List ℕ → Option (List ℕ) → ℕ → NewImage → Refusal → Type 0
+RefusesPlace text bytes most t r = (r ≡ Memory) ⊎ ((v : Volume) (p : Path) → IsAtWork t v → IsPathText text p → AreStopped (making p bytes most) v r)
 
 -- a row is added
 abbrev pub AddsRow : PackRow → NewImage → NewImage → Type 0

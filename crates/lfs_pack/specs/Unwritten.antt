@@ -25,7 +25,7 @@ use Rattle.lfs_pack.specs.OutlinesTaken.{FitsNewPair}
 -- a command that rows have: to make a directory, to put a file, or to set an attribute
 abbrev pub IsOfRow : Command → Type 0
 IsOfRow (Mkdir p) = Unit {0}
-IsOfRow (Put p bytes) = Unit {0}
+IsOfRow (Put p bytes most) = Unit {0}
 IsOfRow (SetAttr p k value) = Unit {0}
 IsOfRow _ = ⊥
 

@@ -3,6 +3,7 @@
 ghost use Rattle.std.specs.Prelude.{◌≡◌, ◌<◌, ◌≤◌, [], All, IfOk, OnOk, length, map};
 ghost use Rattle.std.specs.Option.{option_map};
 ghost use Rattle.lfs_file.specs.Content.{content};
+ghost use Rattle.lfs_fs.specs.Limits.{most_held};
 ghost use Rattle.lfs_fs.specs.Listed.{path_after, rows_listed};
 ghost use Rattle.lfs_fs.specs.Mounted.{IsMountOf};
 ghost use Rattle.lfs_fs.specs.Path.{path_text};
@@ -100,8 +101,8 @@ fn source_row<B: Blocks>(
     row: &Row<'_>,
 ) -> Result<SourceRow, AllocError>
     requires { HasBlocks (B.disk disk.now) row.now.entry.body }
-    ensures { IfOk result (λ copied. source_text copied
-        ≡ shown_text (B.disk disk.now) (record { path = map (λ n. n.now) path.now; entry = row.now.entry })) }
+    ensures { IfOk result (λ copied. source_text most_held copied
+        ≡ shown_text most_held (B.disk disk.now) (record { path = map (λ n. n.now) path.now; entry = row.now.entry })) }
 {
     Ok(SourceRow {
         path: text_of(alloc, path)?,
@@ -117,7 +118,7 @@ fn copied_rows<B: Blocks>(
     rows: Rows<'_>,
 ) -> Result<Vec<SourceRow>, AllocError>
     requires { All (λ r. HasBlocks (B.disk disk.now) r.entry.body) (rows_listed rows) }
-    ensures { IfOk result (λ copied. map source_text copied.items ≡ map (shown_text (B.disk disk.now)) (rows_listed rows.entry)) }
+    ensures { IfOk result (λ copied. map (source_text most_held) copied.items ≡ map (shown_text most_held (B.disk disk.now)) (rows_listed rows.entry)) }
 {
     let mut path = Vec::new(alloc);
     let mut copied = Vec::new(alloc);

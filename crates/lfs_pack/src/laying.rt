@@ -11,7 +11,7 @@ ghost use Rattle.lfs_law.specs.PlansHold.{content_blocks};
 
 use crate::contents::lay_contents;
 use lfs_block::{Blocks, Image};
-use lfs_command::{Command, Named, data_blocks, most_inline};
+use lfs_command::{Command, Named, data_blocks, inline_limit};
 use std::alloc::{AllocError, Global};
 
 /// Lays what a command puts, where it doesn't stand in its entry, in the first of these blocks.
@@ -33,7 +33,7 @@ pub(crate) fn lay_for(
 {
     let size = image.size();
     match command {
-        Command::Put { bytes, .. } if bytes.len() > most_inline(size) as usize => {
+        Command::Put { bytes, most, .. } if bytes.len() > inline_limit(size, *most) as usize => {
             let count = data_blocks(size, command) as usize;
             lay_contents(alloc, image, bytes, &blocks[..count])
         }

@@ -7,6 +7,8 @@ pub struct PackRow<'a> {
     pub path: &'a [u8],
     /// A file's contents; a directory has none.
     pub bytes: Option<&'a [u8]>,
+    /// The greatest length with which they stand in the file's entry.
+    pub most: u32,
     /// The attributes, by kind, with their values.
     pub attributes: &'a [(u8, Vec<u8>)],
 }

@@ -56,24 +56,24 @@ fn set_attributes(
 }
 
 /// The command that makes what a row has at a path: a directory, or a file.
-fn making<'a>(path: Vec<&'a [u8]>, bytes: Option<&'a [u8]>) -> Named<'a>
-    ensures { named_command result ≡ made_by (map (λ n. n.now) path.entry.items) (option_map (λ b. b.now) bytes.entry) }
+fn making<'a>(path: Vec<&'a [u8]>, bytes: Option<&'a [u8]>, most: u32) -> Named<'a>
+    ensures { named_command result ≡ made_by (map (λ n. n.now) path.entry.items) (option_map (λ b. b.now) bytes.entry) most }
 {
-    Command::making(path, bytes)
+    Command::making(path, bytes, most)
 }
 
 /// Makes what a row has at its path: a directory, or a file. The root is there.
 fn place(alloc: Global, new: &mut NewImage, row: &PackRow<'_>) -> Result<(), Refusal>
     requires { (v : Volume) × IsAtWork new.old v }
-    ensures placed { OnOk result (Places row.now.path.now (row_bytes row.now) new.old new.new) }
-    ensures refused { IfErr result (λ r. RefusesPlace row.now.path.now (row_bytes row.now) new.old r) }
+    ensures placed { OnOk result (Places row.now.path.now (row_bytes row.now) row.now.most new.old new.new) }
+    ensures refused { IfErr result (λ r. RefusesPlace row.now.path.now (row_bytes row.now) row.now.most new.old r) }
 {
     packing_laws();
     let path = names_of(alloc, row.path)?;
     if path.is_empty() {
         return Ok(());
     }
-    let command = making(path, row.bytes);
+    let command = making(path, row.bytes, row.most);
     carry_on(alloc, new, &command)?;
     Ok(())
 }

@@ -17,13 +17,14 @@ impl SourceRow {
     ghost use Rattle.std.specs.Prelude.{◌≡◌};
     ghost use Rattle.lfs_pack.specs.RowText.{pack_text, source_text};
 
-    /// The row as it is packed.
-    pub(crate) fn pack_row(&self) -> PackRow<'_>
-        ensures { pack_text result ≡ source_text self.now }
+    /// The row as it is packed. A file stands in its entry if it has at most `most` bytes.
+    pub(crate) fn pack_row(&self, most: u32) -> PackRow<'_>
+        ensures { pack_text result ≡ source_text most self.now }
     {
         PackRow {
             path: self.path.as_slice(),
             bytes: self.bytes.as_deref(),
+            most,
             attributes: self.attributes.as_slice(),
         }
     }

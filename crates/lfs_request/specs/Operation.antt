@@ -11,10 +11,10 @@ use Rattle.lfs_request.specs.SaidLimits.{AreSaidInRange}
 -- command may be kept
 abbrev pub IsOperationInRange : Operation → Type 0
 IsOperationInRange (Format count limits) = IsLimits limits
-IsOperationInRange (Pack extent limits dir) = IsLimits limits
-IsOperationInRange (Repack source extent limits) = AreSaidInRange limits
+IsOperationInRange (Pack extent limits dir most) = IsLimits limits
+IsOperationInRange (Repack source extent limits most) = AreSaidInRange limits
 IsOperationInRange (Change (Do command keep)) = MayKeep keep
 IsOperationInRange (Change (Together commands keep)) = MayKeep keep
 IsOperationInRange (Tree change keep) = MayKeep keep
-IsOperationInRange (Batch file keep one) = MayKeep keep
+IsOperationInRange (Batch file terms one) = MayKeep terms.keep
 IsOperationInRange _ = ⊤

@@ -7,7 +7,7 @@ use crate::source_image::SourceImage;
 use crate::tree_change::TreeChange;
 use crate::view::View;
 use lfs_fs::Limits;
-use lfs_history::{Move, Source};
+use lfs_history::{Move, Source, Terms};
 use lfs_json::Form;
 
 /// What is asked for on an image, by the names of what is to be read for it.
@@ -28,6 +28,8 @@ pub enum Operation<'a> {
         limits: Limits,
         /// The folder's name.
         dir: &'a str,
+        /// The greatest length of a file that stands in its entry.
+        most: u32,
     },
     /// A new image with all that another one holds.
     Repack {
@@ -37,6 +39,8 @@ pub enum Operation<'a> {
         extent: Option<Extent>,
         /// The greatest lengths of a name, a file and an attribute, as far as they are said; else those of the other image.
         limits: SaidLimits,
+        /// The greatest length of a file that stands in its entry.
+        most: u32,
     },
     /// A new folder of the host, with what stands in the image at the path of a directory and below it.
     Extract {
@@ -85,8 +89,8 @@ pub enum Operation<'a> {
     Batch {
         /// The name of the script's file; standard input where there is none.
         file: Option<&'a str>,
-        /// How many images of the past are kept behind each command, 1 to 1,000; all of them for `None`.
-        keep: Option<u32>,
+        /// On what terms its commands are carried out.
+        terms: Terms,
         /// Whether they are one change, in which there are commands alone.
         one: bool,
     },

@@ -20,6 +20,8 @@ pub enum TreeChange<'a, B, R> {
         path: &'a [u8],
         /// The contents.
         bytes: B,
+        /// The greatest length with which they stand in the file's entry.
+        most: u32,
     },
     /// What stands at the path becomes what a folder of the host has.
     Sync {
@@ -27,5 +29,7 @@ pub enum TreeChange<'a, B, R> {
         path: &'a [u8],
         /// What the folder has.
         rows: R,
+        /// The greatest length with which a file that is put stands in its entry.
+        most: u32,
     },
 }

@@ -7,6 +7,7 @@ use Rattle.lfs_command.specs.Command.{Asked}
 use Rattle.lfs_history.specs.declared.moves.Move.{Move}
 use Rattle.lfs_history.specs.declared.moves.Move.TheVariants.{Do, Together, Undo, Redo, Forget}
 use Rattle.lfs_history.specs.declared.source.Source.{Source}
+use Rattle.lfs_history.specs.declared.terms.Terms.{Terms}
 use Rattle.lfs_history.specs.Filling.{bytes_given}
 use Rattle.lfs_history.specs.Meaning.{OnBytes, step_by, step_of}
 use Rattle.lfs_history.specs.Taking as change
@@ -15,14 +16,14 @@ use Rattle.lfs_request.specs.declared.fault.Fault.{Fault}
 use Rattle.lfs_host.specs.Files.{Files}
 use Rattle.lfs_host.specs.Scene.{KeepsScene, Scene}
 use Rattle.lfs_exchange.specs.Handing.{IsUnread}
-use Rattle.lfs_texts.specs.Steps.{Keeps}
+use Rattle.lfs_texts.specs.Steps.{IsOnTerms}
 use Rattle.lfs_texts.specs.declared.script_line.ScriptLine.{ScriptLine}
 use Rattle.lfs_request.specs.declared.operation.Operation.TheVariants as operation
 use Rattle.lfs_step.specs.Step.{may_take_older}
 use Rattle.lfs_step.specs.declared.step.Step.TheVariants.{Change}
 use Rattle.lfs_exchange.specs.StepKind.{kind_of_steps}
 use Rattle.lfs_open.specs.LineMoves.{HandsLine, commands_in, moves_said}
-use Rattle.lfs_serve.specs.Batching.{BecomesBatch, BecomesNoBatch, KeepInRange, LinesKeep, MeansMove, ReadsScript, SaysNoSteps, TakesLines, TakesText, as_asked}
+use Rattle.lfs_serve.specs.Batching.{AreOnTerms, BecomesBatch, BecomesNoBatch, KeepInRange, MeansMove, ReadsScript, SaysNoSteps, TakesLines, TakesText, as_asked}
 use Rattle.lfs_serve.specs.Lines.{EndsLines}
 use Rattle.lfs_serve.specs.Program.{EndsOperation, as_it_is}
 use Rattle.lfs_serve.proofs.StepLemmas.{step_from}
@@ -37,18 +38,18 @@ all_mean files (line ∷ lines) [] zips = absurd zips
 all_mean files (line ∷ lines) (one ∷ read) zips = ((one.items, zips.0, refl), all_mean files lines read zips.1)
 
 -- what a step keeps may be kept
-said_in_range : (step : Move Source) (read : List ℕ) (keep : Option ℕ) → MayKeep keep → Keeps keep step
+said_in_range : (step : Move Source) (read : List ℕ) (terms : Terms) → MayKeep terms.keep → IsOnTerms terms step
     → KeepsInRange (step_by (bytes_given read) step)
-said_in_range (Do command kept) read keep may is = subst MayKeep (sym is) may
-said_in_range (Together commands kept) read keep may is = subst MayKeep (sym is) may
-said_in_range (Undo steps) read keep may is = tt
-said_in_range (Redo steps) read keep may is = tt
-said_in_range Forget read keep may is = tt
+said_in_range (Do command kept) read terms may is = subst MayKeep (sym is.0) may
+said_in_range (Together commands kept) read terms may is = subst MayKeep (sym is) may
+said_in_range (Undo steps) read terms may is = tt
+said_in_range (Redo steps) read terms may is = tt
+said_in_range Forget read terms may is = tt
 
-pub lines_in_range : (keep : Option ℕ) (lines : List ScriptLine) → MayKeep keep → LinesKeep keep lines → KeepInRange lines
-lines_in_range keep [] may keeps = tt
-lines_in_range keep (line ∷ lines) may keeps =
-    (λ read. said_in_range line.step read keep may keeps.0, lines_in_range keep lines may keeps.1)
+pub lines_in_range : (terms : Terms) (lines : List ScriptLine) → MayKeep terms.keep → AreOnTerms terms lines → KeepInRange lines
+lines_in_range terms [] may keeps = tt
+lines_in_range terms (line ∷ lines) may keeps =
+    (λ read. said_in_range line.step read terms may keeps.0, lines_in_range terms lines may keeps.1)
 
 all_said_in_range : (lines : List ScriptLine) (read : List (Vec ℕ)) → KeepInRange lines → AllByRecursion KeepsInRange (moves_said lines read)
 all_said_in_range [] read keeps = tt
@@ -127,21 +128,21 @@ no_batch file text one old new why reads (inl unread) = inl unread
 no_batch file text one old new why reads (inr says) = inr (text, reads, says)
 
 -- the steps that a text says on the scene behind its reading
-from_mid : (file : Option (Bor (List ℕ))) (text : List ℕ) (keep : Option ℕ) (one : Bool) (old mid : Scene) (moves : List change.Move)
-    → ReadsScript file old text → mid.files ≡ old.files → TakesText mid.files keep one text moves → BecomesBatch file keep one old moves
-from_mid file text keep one old mid moves reads files takes =
-    (text, reads, subst (λ (f : Option Files). TakesText f keep one text moves) files takes)
+from_mid : (file : Option (Bor (List ℕ))) (text : List ℕ) (terms : Terms) (one : Bool) (old mid : Scene) (moves : List change.Move)
+    → ReadsScript file old text → mid.files ≡ old.files → TakesText mid.files terms one text moves → BecomesBatch file terms one old moves
+from_mid file text terms one old mid moves reads files takes =
+    (text, reads, subst (λ (f : Option Files). TakesText f terms one text moves) files takes)
 
-pub script_ends : (file : Option (Bor (List ℕ))) (text : List ℕ) (keep : Option ℕ) (one : Bool) (older : Bool) (size : ℕ) (name : List ℕ)
+pub script_ends : (file : Option (Bor (List ℕ))) (text : List ℕ) (terms : Terms) (one : Bool) (older : Bool) (size : ℕ) (name : List ℕ)
     (old mid new : Scene) (ended fault : Option Fault) → ended ≡ fault → ReadsScript file old text → KeepsScene old mid
-    → EndsLines (TakesText mid.files keep one text) (λ why. IsUnread new why ⊎ SaysNoSteps one text why) older size name mid new fault
-    → EndsOperation (operation.Batch file keep one) older size name old new ended
-script_ends file text keep one older size name old mid new ended fault is reads kept ends =
-    subst (EndsOperation (operation.Batch file keep one) older size name old new) (sym is) (
+    → EndsLines (TakesText mid.files terms one text) (λ why. IsUnread new why ⊎ SaysNoSteps one text why) older size name mid new fault
+    → EndsOperation (operation.Batch file terms one) older size name old new ended
+script_ends file text terms one older size name old mid new ended fault is reads kept ends =
+    subst (EndsOperation (operation.Batch file terms one) older size name old new) (sym is) (
     elim ends [
       | inl did ↦ inl (
         Change did.0,
-        from_mid file text keep one old mid (map step_of did.0.now) reads kept.0 did.1,
+        from_mid file text terms one old mid (map step_of did.0.now) reads kept.0 did.1,
         step_from (Change did.0) (as_it_is (may_take_older (Change did.0) && older)) size name mid old new fault kept.0 kept.1 did.2,
       )
       | inr not ↦
@@ -152,7 +153,7 @@ script_ends file text keep one older size name old mid new ended fault is reads 
               not.1.1,
               elim not.1.2 [
                 | inl none ↦ inl (no_batch file text one old new not.1.0 reads none)
-                | inr apart ↦ inr (kind_of_steps apart.0, (apart.0, from_mid file text keep one old mid apart.0 reads kept.0 apart.1, refl), apart.2)
+                | inr apart ↦ inr (kind_of_steps apart.0, (apart.0, from_mid file text terms one old mid apart.0 reads kept.0 apart.1, refl), apart.2)
               ],
             ),
           )

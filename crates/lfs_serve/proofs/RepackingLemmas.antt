@@ -17,17 +17,17 @@ use Rattle.lfs_open.specs.Repacking.{IsExtentFor, PacksSource, ReadsSource, Refu
 use Rattle.lfs_open.specs.declared.opened.Opened.{Opened}
 
 -- the rows of its copies, with the limits that are said, and the others that it has
-pub packs : (source : SourceImage) (extent : Option Extent) (said : SaidLimits) (size : ℕ) (files : Option Files) (count : ℕ) (limits : Limits)
-    (rows : List PackRow) (o : Opened) → IsSourceOpened source files o → map pack_text rows ≡ map source_text o.rows.items
+pub packs : (source : SourceImage) (extent : Option Extent) (said : SaidLimits) (most size : ℕ) (files : Option Files) (count : ℕ) (limits : Limits)
+    (rows : List PackRow) (o : Opened) → IsSourceOpened source files o → map pack_text rows ≡ map (source_text most) o.rows.items
     → limits ≡ limits_or said o.limits → IsExtentFor o.len size limits rows extent count
-    → PacksSource source extent said size files count limits rows
-packs source extent said size files count limits rows o (image, reads, is) texts limits_are counts = record {
+    → PacksSource source extent said most size files count limits rows
+packs source extent said most size files count limits rows o (image, reads, is) texts limits_are counts = record {
   image = image;
   reads = reads;
   disk = is.disk;
   mounted = is.mounted;
   mount = is.mount;
-  rows_are = is.copies rows texts;
+  rows_are = is.copies most rows texts;
   limits_are = limits_are ∙ ap (limits_or said) is.limits_are;
   count_is = subst (λ (len : ℕ). IsExtentFor len size limits rows extent count) is.len_is counts;
 }

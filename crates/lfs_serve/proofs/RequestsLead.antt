@@ -332,9 +332,9 @@ stop_leaves s manner size name scene behind fault old new h before later denotes
 
 -- the rows of a folder say what is packed, and no other step has any
 good_step : (t : Operation) (size : ℕ) (scene : Scene) (s : Step) → BecomesStep t size scene s → HasGoodRows s
-good_step (operation.Pack extent limits dir) size scene (Pack count stated rows) (folder, counts, same) = (map packed_row folder.shown, folder.packed)
-good_step (operation.Repack source extent said) size scene (Pack count stated rows) packs =
-    (all_packed (image_of source.size packs.image) packs.mounted.rows, packs.rows_are)
+good_step (operation.Pack extent limits dir most) size scene (Pack count stated rows) (folder, counts, same) = (map (packed_row most) folder.shown, folder.packed)
+good_step (operation.Repack source extent said most) size scene (Pack count stated rows) packs =
+    (all_packed most (image_of source.size packs.image) packs.mounted.rows, packs.rows_are)
 good_step (operation.Format many limits) size scene (Pack count stated rows) becomes = absurd becomes
 good_step (operation.Extract dir path view) size scene (Pack count stated rows) becomes = absurd becomes
 good_step (operation.Salvage dir view) size scene (Pack count stated rows) becomes = absurd becomes
@@ -343,7 +343,7 @@ good_step operation.Forget size scene (Pack count stated rows) becomes = absurd 
 good_step (operation.Adopt form replaces) size scene (Pack count stated rows) becomes = absurd becomes
 good_step (operation.Change move) size scene (Pack count stated rows) becomes = absurd becomes
 good_step (operation.Tree change keep) size scene (Pack count stated rows) becomes = absurd becomes
-good_step (operation.Batch file keep one) size scene (Pack count stated rows) becomes = absurd becomes
+good_step (operation.Batch file terms one) size scene (Pack count stated rows) becomes = absurd becomes
 good_step t size scene (Format count limits) becomes = tt
 good_step t size scene (Ask query form) becomes = tt
 good_step t size scene Forget becomes = tt
@@ -423,11 +423,11 @@ operation_ends laws fault (operation.Salvage dir view) older size name scene beh
 operation_ends laws fault (operation.Format count limits) older size name scene behind old new h before later denotes ends =
     step_ends laws fault (operation.Format count limits) older size name scene behind old new h (λ next goes. goes) (λ s becomes. inl refl) before later
     denotes ends
-operation_ends laws fault (operation.Pack extent limits dir) older size name scene behind old new h before later denotes ends =
-    step_ends laws fault (operation.Pack extent limits dir) older size name scene behind old new h (λ next goes. goes) (λ s becomes. inl refl) before later
+operation_ends laws fault (operation.Pack extent limits dir most) older size name scene behind old new h before later denotes ends =
+    step_ends laws fault (operation.Pack extent limits dir most) older size name scene behind old new h (λ next goes. goes) (λ s becomes. inl refl) before later
     denotes ends
-operation_ends laws fault (operation.Repack source extent said) older size name scene behind old new h before later denotes ends =
-    step_ends laws fault (operation.Repack source extent said) older size name scene behind old new h (λ next goes. goes) (λ s becomes. inl refl) before later
+operation_ends laws fault (operation.Repack source extent said most) older size name scene behind old new h before later denotes ends =
+    step_ends laws fault (operation.Repack source extent said most) older size name scene behind old new h (λ next goes. goes) (λ s becomes. inl refl) before later
     denotes ends
 operation_ends laws fault (operation.Ask query form view) older size name scene behind old new h before later denotes ends =
     step_ends laws fault (operation.Ask query form view) older size name scene behind old new h (λ next goes. goes)
@@ -444,8 +444,8 @@ operation_ends laws fault (operation.Change move) older size name scene behind o
 operation_ends laws fault (operation.Tree change keep) older size name scene behind old new h before later denotes ends =
     step_ends laws fault (operation.Tree change keep) older size name scene behind old new h (λ next goes. goes) (λ s becomes. inl refl) before later
     denotes ends
-operation_ends laws fault (operation.Batch file keep one) older size name scene behind old new h before later denotes ends =
-    step_ends laws fault (operation.Batch file keep one) older size name scene behind old new h (λ next goes. goes) (λ s becomes. inl refl) before later
+operation_ends laws fault (operation.Batch file terms one) older size name scene behind old new h before later denotes ends =
+    step_ends laws fault (operation.Batch file terms one) older size name scene behind old new h (λ next goes. goes) (λ s becomes. inl refl) before later
     denotes ends
 
 -- ---- requests

@@ -5,6 +5,7 @@ use Rattle.std.specs.List.{AllByRecursion, AllZip}
 use Rattle.lfs_fs.specs.Limits.{most_file}
 use Rattle.lfs_history.specs.Taking as change
 use Rattle.lfs_history.specs.Taking.{KeepsInRange}
+use Rattle.lfs_history.specs.declared.terms.Terms.{Terms}
 use Rattle.lfs_request.specs.declared.fault.Fault.{Fault}
 use Rattle.lfs_host.specs.Files.{Files, ReadsFile, ReadsInput}
 use Rattle.lfs_host.specs.Scene.{Scene}
@@ -13,7 +14,7 @@ use Rattle.lfs_exchange.specs.Handing.{IsUnread}
 use Rattle.lfs_report.specs.RefusedLine.{fault_of_line}
 use Rattle.lfs_texts.specs.OneChange.{first_other}
 use Rattle.lfs_texts.specs.Script.{IsFirstFault, SaysLine, asking_lines}
-use Rattle.lfs_texts.specs.Steps.{Keeps}
+use Rattle.lfs_texts.specs.Steps.{IsOnTerms}
 use Rattle.lfs_texts.specs.declared.script_fault.ScriptFault.{ScriptFault}
 use Rattle.lfs_texts.specs.declared.script_line.ScriptLine.{ScriptLine}
 
@@ -29,9 +30,9 @@ MeansMove files line move = (read : List ℕ) × HandsContents line.step files r
 abbrev pub TakesLines : Option Files → List ScriptLine → List change.Move → Type 0
 TakesLines files lines moves = AllZip (MeansMove files) lines moves
 
--- so many images of the past are kept behind each command of lines
-abbrev pub LinesKeep : Option ℕ → List ScriptLine → Type 0
-LinesKeep keep lines = AllByRecursion (λ line. Keeps keep line.step) lines
+-- each command of lines is on these terms
+abbrev pub AreOnTerms : Terms → List ScriptLine → Type 0
+AreOnTerms terms lines = AllByRecursion (λ line. IsOnTerms terms line.step) lines
 
 -- what they keep may be kept
 abbrev pub KeepInRange : List ScriptLine → Type 0
@@ -55,10 +56,10 @@ BecomesOf files lines one keep moves =
     (meant : List change.Move) × TakesLines files lines meant × (moves ≡ as_asked one keep meant)
 
 -- those that the lines of a text become
-abbrev pub TakesText : Option Files → Option ℕ → Bool → List ℕ → List change.Move → Type 0
-TakesText files keep one text moves =
-    (lines : List ScriptLine) × AllZip SaysLine (asking_lines text) lines × LinesKeep keep lines × MayBeOne one lines
-    × BecomesOf files lines one keep moves
+abbrev pub TakesText : Option Files → Terms → Bool → List ℕ → List change.Move → Type 0
+TakesText files terms one text moves =
+    (lines : List ScriptLine) × AllZip SaysLine (asking_lines text) lines × AreOnTerms terms lines × MayBeOne one lines
+    × BecomesOf files lines one terms.keep moves
 
 -- the text of a script: that of a file of the host, or what comes on standard input
 abbrev pub ReadsScript : Option (Bor (List ℕ)) → Scene → List ℕ → Type 0
@@ -66,8 +67,8 @@ ReadsScript (Some name) scene text = ReadsFile scene.files name.now most_file te
 ReadsScript None scene text = ReadsInput scene.typed most_file text
 
 -- the steps that a script becomes
-abbrev pub BecomesBatch : Option (Bor (List ℕ)) → Option ℕ → Bool → Scene → List change.Move → Type 0
-BecomesBatch file keep one scene moves = (text : List ℕ) × ReadsScript file scene text × TakesText scene.files keep one text moves
+abbrev pub BecomesBatch : Option (Bor (List ℕ)) → Terms → Bool → Scene → List change.Move → Type 0
+BecomesBatch file terms one scene moves = (text : List ℕ) × ReadsScript file scene text × TakesText scene.files terms one text moves
 
 -- ---- a script that becomes no steps
 

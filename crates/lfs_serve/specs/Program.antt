@@ -96,9 +96,9 @@ EndsStep step manner size name old new (Some fault) = StopsStep step manner size
 -- the step that an operation becomes on blocks of a size, with all that is read of a host for it in hand
 abbrev pub BecomesStep : Operation → ℕ → Scene → Step → Type 0
 BecomesStep (Format count limits) size s (step.Format blocks stated) = (blocks ≡ count) × (stated ≡ limits)
-BecomesStep (Pack extent limits dir) size s (step.Pack count stated rows) =
-    PacksFolder s.tree dir.now rows.now × IsExtent size limits rows.now extent count × (stated ≡ limits)
-BecomesStep (Repack source extent said) size s (step.Pack count stated rows) = PacksSource source extent said size s.files count stated rows.now
+BecomesStep (Pack extent limits dir most) size s (step.Pack count stated rows) =
+    PacksFolder s.tree dir.now most rows.now × IsExtent size limits rows.now extent count × (stated ≡ limits)
+BecomesStep (Repack source extent said most) size s (step.Pack count stated rows) = PacksSource source extent said most size s.files count stated rows.now
 BecomesStep (Ask query form view) size s (step.Ask question said) =
     (handed : Question) × (image : List ℕ) × HandsQuestion s.files query handed × IsAskedBy view.by_device size image handed question
     × (said ≡ form)
@@ -107,7 +107,7 @@ BecomesStep (Adopt form replaces) size s (step.Adopt said asked) = (said ≡ for
 BecomesStep (Change move) size s (step.Change steps) =
     (read : List ℕ) × HandsInput move s.files s.typed read × (map step_of steps.now ≡ step_by (bytes_given read) move ∷ [])
 BecomesStep (Tree change keep) size s (step.Tree became kept) = BecomesChange change s became × (kept ≡ keep)
-BecomesStep (Batch file keep one) size s (step.Change steps) = BecomesBatch file keep one s (map step_of steps.now)
+BecomesStep (Batch file terms one) size s (step.Change steps) = BecomesBatch file terms one s (map step_of steps.now)
 BecomesStep _ size s _ = ⊥
 
 -- the manner in which the image is read that an operation is done on: as all of its file, as it is, or as the operation looks at it
@@ -123,8 +123,8 @@ manner_of _ older = as_it_is older
 -- the kind of that step, which is known before the image's files are taken up, once a folder or a script is read
 abbrev pub HasKind : Operation → Scene → StepKind → Type 0
 HasKind (Format count limits) s kind = kind ≡ Makes
-HasKind (Pack extent limits dir) s kind = (kind ≡ Makes) × ((rows : List PackRow) × PacksFolder s.tree dir.now rows)
-HasKind (Repack source extent said) s kind = kind ≡ Makes
+HasKind (Pack extent limits dir most) s kind = (kind ≡ Makes) × ((rows : List PackRow) × PacksFolder s.tree dir.now most rows)
+HasKind (Repack source extent said most) s kind = kind ≡ Makes
 HasKind (Extract dir path view) s kind = ⊥
 HasKind (Salvage dir view) s kind = ⊥
 HasKind (Ask query form view) s kind = kind ≡ kind_of_query query
@@ -132,15 +132,15 @@ HasKind Forget s kind = kind ≡ Forgets
 HasKind (Adopt form replaces) s kind = kind ≡ Adopts
 HasKind (Change move) s kind = kind ≡ Changes
 HasKind (Tree change keep) s kind = (kind ≡ Changes) × IsReadFirst change s
-HasKind (Batch file keep one) s kind = (moves : List change.Move) × BecomesBatch file keep one s moves × (kind ≡ kind_of_steps moves)
+HasKind (Batch file terms one) s kind = (moves : List change.Move) × BecomesBatch file terms one s moves × (kind ≡ kind_of_steps moves)
 
 -- why what is read for an operation isn't, but for the image's files: its folder, its script, or contents, or another image, also as it is read
 abbrev pub IsNotRead : Operation → Scene → Scene → Fault → Type 0
-IsNotRead (Pack extent limits dir) old new why = ReadsNoFolder old.tree dir.now new why
+IsNotRead (Pack extent limits dir most) old new why = ReadsNoFolder old.tree dir.now new why
 IsNotRead (Tree change keep) old new why = IsNotReadFor change old new why
-IsNotRead (Batch file keep one) old new why = BecomesNoBatch file one old new why
+IsNotRead (Batch file terms one) old new why = BecomesNoBatch file one old new why
 IsNotRead (Change move) old new why = IsUnread new why
-IsNotRead (Repack source extent said) old new why = RefusesSource source old new why
+IsNotRead (Repack source extent said most) old new why = RefusesSource source old new why
 IsNotRead (Ask query form view) old new why = IsOtherUnread new why
 IsNotRead _ old new why = ⊥
 
@@ -166,7 +166,7 @@ EndsOperation operation older size name old new fault =
 abbrev pub operation_reads_input : Operation → Bool
 operation_reads_input (Change move) = reads_input move
 operation_reads_input (Tree change keep) = change_reads_input change
-operation_reads_input (Batch None keep one) = true
+operation_reads_input (Batch None terms one) = true
 operation_reads_input _ = false
 
 -- whether an operation makes a folder

@@ -32,23 +32,23 @@ pub record SyncsFolder (tree : Option HostTree) (dir : List ℕ) (rows : List Sy
 abbrev pub BecomesChange : Asking → Scene → Changing → Type 0
 BecomesChange (Remove path) s (Remove text) = text ≡ path
 BecomesChange (Make path) s (Make text) = text ≡ path
-BecomesChange (Put path source) s (Put text bytes) =
-    (text ≡ path) × ((read : List ℕ) × HandsSource source s.files s.typed read × (bytes.now ≡ bytes_given read source))
-BecomesChange (Sync path dir) s (Sync text rows) = (text ≡ path) × SyncsFolder s.tree dir.now rows.now
+BecomesChange (Put path source most) s (Put text bytes bound) =
+    (text ≡ path) × (bound ≡ most) × ((read : List ℕ) × HandsSource source s.files s.typed read × (bytes.now ≡ bytes_given read source))
+BecomesChange (Sync path dir most) s (Sync text rows bound) = (text ≡ path) × (bound ≡ most) × SyncsFolder s.tree dir.now rows.now
 BecomesChange _ s _ = ⊥
 
 -- what is read before the image's files are taken up is read: a folder
 abbrev pub IsReadFirst : Asking → Scene → Type 0
-IsReadFirst (Sync path dir) s = (rows : List SyncRow) × SyncsFolder s.tree dir.now rows
+IsReadFirst (Sync path dir most) s = (rows : List SyncRow) × SyncsFolder s.tree dir.now rows
 IsReadFirst _ s = ⊤
 
 -- why what is read for a change isn't
 abbrev pub IsNotReadFor : Asking → Scene → Scene → Fault → Type 0
-IsNotReadFor (Put path source) old new why = IsUnread new why
-IsNotReadFor (Sync path dir) old new why = ReadsNoFolder old.tree dir.now new why
+IsNotReadFor (Put path source most) old new why = IsUnread new why
+IsNotReadFor (Sync path dir most) old new why = ReadsNoFolder old.tree dir.now new why
 IsNotReadFor _ old new why = ⊥
 
 -- whether standard input is read for it
 abbrev pub change_reads_input : Asking → Bool
-change_reads_input (Put path source) = is_input source
+change_reads_input (Put path source most) = is_input source
 change_reads_input _ = false

@@ -1,21 +1,22 @@
 //! The steps of a script, taken on an image's file.
 
-ghost use Rattle.std.specs.Prelude.{◌≡◌, ◌⊎◌, ℕ, Bool, Option, false, map, IfErr, IfOk};
+ghost use Rattle.std.specs.Prelude.{◌≡◌, ◌⊎◌, Bool, false, map, IfErr, IfOk};
 ghost use Rattle.std.specs.List.{AllByRecursion, AllZip};
 ghost use Rattle.lfs_exchange.specs.Handing.{IsUnread};
 ghost use Rattle.lfs_history.specs.Meaning.{step_of};
 ghost use Rattle.lfs_history.specs.Taking.{KeepsInRange, MayKeep};
+ghost use Rattle.lfs_history.specs.declared.terms.Terms.{Terms};
 ghost use Rattle.lfs_host.specs.Scene.{KeepsOutput};
 ghost use Rattle.lfs_report.specs.Stop.{stopped_by};
 ghost use Rattle.lfs_request.specs.declared.operation.Operation.TheVariants.{Batch};
-ghost use Rattle.lfs_serve.specs.Batching.{BecomesOf, IsRefusedLine, KeepInRange, LinesKeep, MayBeOne, ReadsScript, SaysNoSteps, TakesText, as_asked};
+ghost use Rattle.lfs_serve.specs.Batching.{AreOnTerms, BecomesOf, IsRefusedLine, KeepInRange, MayBeOne, ReadsScript, SaysNoSteps, TakesText, as_asked};
 ghost use Rattle.lfs_serve.specs.Lines.{EndsLines};
 ghost use Rattle.lfs_serve.specs.Program.{EndsOperation, OperationLeavesRest, operation_reads_input};
 ghost use Rattle.lfs_texts.specs.Script.{SaysLine, asking_lines};
 
 use crate::stepping::stepped;
 use lfs_exchange::{kind_of_steps, read_contents, read_input, taken_up};
-use lfs_history::Move;
+use lfs_history::{Move, Terms};
 use lfs_host::Host;
 use lfs_open::{commands_of, moves_of, read_lines};
 use lfs_report::{Context, Stop, stop_of_line, with_line, with_number};
@@ -32,16 +33,16 @@ pub(crate) fn batched<H: Host>(
     request: &Request<'_>,
     context: &mut Context,
     file: Option<&str>,
-    keep: Option<u32>,
+    terms: Terms,
     one: bool,
 ) -> Result<(), Stop>
-    requires { MayKeep keep }
-    ensures ended { EndsOperation (Batch file.entry keep one) request.now.takes_older request.now.size request.now.image.now
+    requires { MayKeep terms.keep }
+    ensures ended { EndsOperation (Batch file.entry terms one) request.now.takes_older request.now.size request.now.image.now
         (H.known host.old) (H.known host.new) (stopped_by result) }
-    ensures rest { OperationLeavesRest (Batch file.entry keep one) (H.known host.old) (H.known host.new) }
+    ensures rest { OperationLeavesRest (Batch file.entry terms one) (H.known host.old) (H.known host.new) }
 {
     let text = script_text(alloc, host, file)?;
-    let end = text_batched(alloc, host, request, context, &text, keep, one);
+    let end = text_batched(alloc, host, request, context, &text, terms, one);
     lined(alloc, &text, context, end)
 }
 
@@ -64,7 +65,7 @@ fn lined(
 fn script_text<H: Host>(alloc: Global, host: &mut H, file: Option<&str>) -> Result<Vec<u8>, Fault>
     ensures text { IfOk result (λ text. ReadsScript file.entry (H.known host.old) text.items) }
     ensures refused { IfErr result (IsUnread (H.known host.new)) }
-    ensures unread { (keep : Option ℕ) → (one : Bool) → operation_reads_input (Batch file.entry keep one) ≡ false
+    ensures unread { (terms : Terms) → (one : Bool) → operation_reads_input (Batch file.entry terms one) ≡ false
         → (H.known host.new).typed ≡ (H.known host.old).typed }
     ensures kept { KeepsOutput (H.known host.old) (H.known host.new) }
 {
@@ -81,19 +82,19 @@ fn text_batched<H: Host>(
     request: &Request<'_>,
     context: &mut Context,
     text: &[u8],
-    keep: Option<u32>,
+    terms: Terms,
     one: bool,
 ) -> Result<(), Stop>
-    requires { MayKeep keep }
-    ensures ended { EndsLines (TakesText (H.known host.old).files keep one text.now)
+    requires { MayKeep terms.keep }
+    ensures ended { EndsLines (TakesText (H.known host.old).files terms one text.now)
         (λ why. IsUnread (H.known host.new) why ⊎ SaysNoSteps one text.now why)
         request.now.takes_older request.now.size request.now.image.now (H.known host.old) (H.known host.new) (stopped_by result) }
     ensures typed { (H.known host.new).typed ≡ (H.known host.old).typed }
     ensures made { (H.known host.new).made ≡ (H.known host.old).made }
 {
     let script = script_of(alloc, text);
-    match lines_said(alloc, &script, keep, one) {
-        Ok(lines) => lines_batched(alloc, host, request, context, &lines, keep, one),
+    match lines_said(alloc, &script, terms, one) {
+        Ok(lines) => lines_batched(alloc, host, request, context, &lines, terms.keep, one),
         Err(first) => Err(stop_of_line(first)),
     }
 }
@@ -102,15 +103,15 @@ fn text_batched<H: Host>(
 fn lines_said<'a>(
     alloc: Global,
     script: &'a Script<'_>,
-    keep: Option<u32>,
+    terms: Terms,
     one: bool,
 ) -> Result<Vec<ScriptLine<'a>>, ScriptFault>
     ensures lines { IfOk result (λ lines. AllZip SaysLine (asking_lines script.now) lines.items) }
-    ensures keep { IfOk result (λ lines. LinesKeep keep lines.items) }
+    ensures terms { IfOk result (λ lines. AreOnTerms terms lines.items) }
     ensures one { IfOk result (λ lines. MayBeOne one lines.items) }
     ensures refused { IfErr result (IsRefusedLine one script.now) }
 {
-    let lines = script_lines(alloc, script, keep)?;
+    let lines = script_lines(alloc, script, terms)?;
     if !one {
         return Ok(lines);
     }

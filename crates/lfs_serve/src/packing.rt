@@ -26,14 +26,15 @@ pub(crate) fn packed<H: Host>(
     extent: Extent,
     limits: Limits,
     dir: &str,
+    most: u32,
 ) -> Result<(), Stop>
     requires { IsLimits limits }
-    ensures ended { EndsOperation (Pack extent limits dir.entry) request.now.takes_older request.now.size request.now.image.now
+    ensures ended { EndsOperation (Pack extent limits dir.entry most) request.now.takes_older request.now.size request.now.image.now
         (H.known host.old) (H.known host.new) (stopped_by result) }
-    ensures rest { OperationLeavesRest (Pack extent limits dir.entry) (H.known host.old) (H.known host.new) }
+    ensures rest { OperationLeavesRest (Pack extent limits dir.entry most) (H.known host.old) (H.known host.new) }
 {
     let folder = folder_of(alloc, host, dir)?;
-    let rows = rows_to_pack(alloc, &folder)?;
+    let rows = rows_to_pack(alloc, &folder, most)?;
     let rows = rows.as_slice();
     let count = counted(alloc, request.size, extent, limits, rows)?;
     let handed = taken_up(alloc, host, StepKind::Makes, 0, request.image)?;

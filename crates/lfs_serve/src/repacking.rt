@@ -25,15 +25,16 @@ pub(crate) fn repacked<H: Host>(
     source: &SourceImage<'_>,
     extent: Option<Extent>,
     limits: SaidLimits,
+    most: u32,
 ) -> Result<(), Stop>
     requires { AreSaidInRange limits }
-    ensures ended { EndsOperation (Repack source.now extent limits) request.now.takes_older request.now.size request.now.image.now
+    ensures ended { EndsOperation (Repack source.now extent limits most) request.now.takes_older request.now.size request.now.image.now
         (H.known host.old) (H.known host.new) (stopped_by result) }
-    ensures rest { OperationLeavesRest (Repack source.now extent limits) (H.known host.old) (H.known host.new) }
+    ensures rest { OperationLeavesRest (Repack source.now extent limits most) (H.known host.old) (H.known host.new) }
 {
     let handed = taken_up(alloc, host, StepKind::Makes, 0, request.image)?;
     let opened = open_source(alloc, host, context, source)?;
-    let rows = pack_rows(alloc, &opened.rows)?;
+    let rows = pack_rows(alloc, &opened.rows, most)?;
     let rows = rows.as_slice();
     let limits = limits.or(opened.limits);
     let count = counted_for(alloc, request.size, extent, limits, rows, opened.len)?;

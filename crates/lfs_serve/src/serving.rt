@@ -69,12 +69,16 @@ fn done<H: Host>(
             extent,
             limits,
             dir,
-        } => packed(alloc, host, request, context, *extent, *limits, *dir),
+            most,
+        } => packed(alloc, host, request, context, *extent, *limits, *dir, *most),
         Operation::Repack {
             source,
             extent,
             limits,
-        } => repacked(alloc, host, request, context, source, *extent, *limits),
+            most,
+        } => repacked(
+            alloc, host, request, context, source, *extent, *limits, *most,
+        ),
         Operation::Extract { dir, path, view } => {
             extracted(alloc, host, request, context, *view, *path, *dir)
         }
@@ -90,8 +94,8 @@ fn done<H: Host>(
         Operation::Tree { change, keep } => {
             tree_changed(alloc, host, request, context, change, *keep)
         }
-        Operation::Batch { file, keep, one } => {
-            batched(alloc, host, request, context, *file, *keep, *one)
+        Operation::Batch { file, terms, one } => {
+            batched(alloc, host, request, context, *file, *terms, *one)
         }
     }
 }

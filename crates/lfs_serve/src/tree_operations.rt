@@ -49,13 +49,39 @@ pub(crate) fn tree_changed<H: Host>(
             let change = TreeChange::Make { path: *path };
             change_taken(alloc, host, request, context, change, keep)
         }
-        TreeChange::Put { path, bytes } => {
-            put_with_parents(alloc, host, request, context, *path, bytes, keep)
+        TreeChange::Put { path, bytes, most } => {
+            put_with_parents(alloc, host, request, context, *path, bytes, *most, keep)
         }
-        TreeChange::Sync { path, rows } => {
-            synced(alloc, host, request, context, *path, *rows, keep)
+        TreeChange::Sync { path, rows, most } => {
+            synced(alloc, host, request, context, *path, *rows, *most, keep)
         }
     }
+}
+
+/// Takes a change of a tree on the image's files, with all that is read for it in hand.
+fn change_of_handed<H: Host>(
+    alloc: Global,
+    host: &mut H,
+    request: &Request<'_>,
+    context: &mut Context,
+    handed: Handed,
+    change: TreeChange<'_, &[u8], &[SyncRow<'_>]>,
+    keep: Option<u32>,
+) -> Result<(), Stop>
+    requires keep { MayKeep keep }
+    requires range { IsChangeInRange change }
+    requires kind { handed.kind ≡ Changes }
+    requires target { IsTarget (H.known host.old).files request.now.image.now (string_bytes handed.target) }
+    requires claimed { IsClaimed handed.kind (H.known host.old) (string_bytes handed.target) }
+    requires handed { IsHanded handed.kind 0 request.now.image.now (H.known host.old)
+        (record { image = handed.image.items; journal = handed.journal.items }) }
+    ensures ended { EndsStep (step.Tree change.entry keep) (as_it_is false) request.now.size
+        request.now.image.now (H.known host.old) (H.known host.new) (stopped_by result) }
+    ensures typed { (H.known host.new).typed ≡ (H.known host.old).typed }
+    ensures made { (H.known host.new).made ≡ (H.known host.old).made }
+{
+    let step = Step::Tree { change, keep };
+    stepped(alloc, host, request, context, handed, step)
 }
 
 /// Takes a change of a tree for which nothing is read but the image's files.
@@ -77,8 +103,7 @@ fn change_taken<H: Host>(
     ensures made { (H.known host.new).made ≡ (H.known host.old).made }
 {
     let handed = taken_up(alloc, host, StepKind::Changes, 0, request.image)?;
-    let step = Step::Tree { change, keep };
-    stepped(alloc, host, request, context, handed, step)
+    change_of_handed(alloc, host, request, context, handed, change, keep)
 }
 
 /// The bytes of a source of contents: those that are said, or those that were read of it.
@@ -99,44 +124,19 @@ fn put_with_parents<'a, H: Host>(
     context: &mut Context,
     path: &'a [u8],
     source: &'a Source<'a>,
+    most: u32,
     keep: Option<u32>,
 ) -> Result<(), Stop>
     requires { MayKeep keep }
-    ensures ended { EndsOperation (Tree (Put path.entry source.now) keep) request.now.takes_older request.now.size request.now.image.now
+    ensures ended { EndsOperation (Tree (Put path.entry source.now most) keep) request.now.takes_older request.now.size request.now.image.now
         (H.known host.old) (H.known host.new) (stopped_by result) }
-    ensures rest { OperationLeavesRest (Tree (Put path.entry source.now) keep) (H.known host.old) (H.known host.new) }
+    ensures rest { OperationLeavesRest (Tree (Put path.entry source.now most) keep) (H.known host.old) (H.known host.new) }
 {
     let handed = taken_up(alloc, host, StepKind::Changes, 0, request.image)?;
     let read = source_read(alloc, host, source)?;
     let bytes = contents_of(source, read.as_slice());
-    put_taken(alloc, host, request, context, handed, path, bytes, keep)
-}
-
-/// The same with the contents in hand, and the image's files.
-fn put_taken<'a, H: Host>(
-    alloc: Global,
-    host: &mut H,
-    request: &Request<'_>,
-    context: &mut Context,
-    handed: Handed,
-    path: &'a [u8],
-    bytes: &'a [u8],
-    keep: Option<u32>,
-) -> Result<(), Stop>
-    requires keep { MayKeep keep }
-    requires kind { handed.kind ≡ Changes }
-    requires target { IsTarget (H.known host.old).files request.now.image.now (string_bytes handed.target) }
-    requires claimed { IsClaimed handed.kind (H.known host.old) (string_bytes handed.target) }
-    requires handed { IsHanded handed.kind 0 request.now.image.now (H.known host.old)
-        (record { image = handed.image.items; journal = handed.journal.items }) }
-    ensures ended { EndsStep (step.Tree (Put path.entry bytes.entry) keep) (as_it_is false) request.now.size
-        request.now.image.now (H.known host.old) (H.known host.new) (stopped_by result) }
-    ensures typed { (H.known host.new).typed ≡ (H.known host.old).typed }
-    ensures made { (H.known host.new).made ≡ (H.known host.old).made }
-{
-    let change = TreeChange::Put { path, bytes };
-    let step = Step::Tree { change, keep };
-    stepped(alloc, host, request, context, handed, step)
+    let change = TreeChange::Put { path, bytes, most };
+    change_of_handed(alloc, host, request, context, handed, change, keep)
 }
 
 /// Makes what stands at a path like a folder of the host, which is read first.
@@ -147,18 +147,20 @@ fn synced<H: Host>(
     context: &mut Context,
     path: &[u8],
     dir: &str,
+    most: u32,
     keep: Option<u32>,
 ) -> Result<(), Stop>
     requires { MayKeep keep }
-    ensures ended { EndsOperation (Tree (Sync path.entry dir.entry) keep) request.now.takes_older request.now.size request.now.image.now
+    ensures ended { EndsOperation (Tree (Sync path.entry dir.entry most) keep) request.now.takes_older request.now.size request.now.image.now
         (H.known host.old) (H.known host.new) (stopped_by result) }
-    ensures rest { OperationLeavesRest (Tree (Sync path.entry dir.entry) keep) (H.known host.old) (H.known host.new) }
+    ensures rest { OperationLeavesRest (Tree (Sync path.entry dir.entry most) keep) (H.known host.old) (H.known host.new) }
 {
     let folder = folder_of(alloc, host, dir)?;
     let rows = sync_rows(alloc, &folder)?;
     let change = TreeChange::Sync {
         path,
         rows: rows.as_slice(),
+        most,
     };
     change_taken(alloc, host, request, context, change, keep)
 }

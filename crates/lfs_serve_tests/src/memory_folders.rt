@@ -2,7 +2,7 @@
 
 use lfs_block::{Image, geometry_ok};
 use lfs_extract::{ExtractFault, FolderFault, FolderRow, extract_rows, folder_rows};
-use lfs_fs::mount;
+use lfs_fs::{MOST_HELD, mount};
 use lfs_host::{Failing, MadeEntry, MemoryHost};
 use lfs_open::rows_to_pack;
 use lfs_pack::{PackRow, pack};
@@ -92,7 +92,7 @@ pub(crate) fn packed(alloc: Global, size: u32, count: u32, rows: &[PackRow<'_>])
 
 /// An image of 8 blocks of 512 bytes with what a folder's rows have.
 fn image_of(alloc: Global, folder: &[FolderRow]) -> Option<Image> {
-    match rows_to_pack(alloc, folder) {
+    match rows_to_pack(alloc, folder, MOST_HELD) {
         Ok(rows) => packed(alloc, 512, 8, &rows),
         Err(_) => None,
     }

@@ -3,7 +3,7 @@
 use crate::memory_folders::packed;
 use lfs_block::Image;
 use lfs_extract::extract_rows;
-use lfs_fs::mount;
+use lfs_fs::{MOST_HELD, mount};
 use lfs_host::{HostFault, Known, NewFolder};
 use lfs_pack::PackRow;
 use std::alloc::Global;
@@ -93,11 +93,13 @@ fn image_of_a_file(alloc: Global) -> Option<Image> {
     let root = PackRow {
         path: b"/",
         bytes: None,
+        most: MOST_HELD,
         attributes: &[],
     };
     let file = PackRow {
         path: b"/f",
         bytes: Some(b"bytes"),
+        most: MOST_HELD,
         attributes: &[],
     };
     packed(alloc, 256, 2, &[root, file])

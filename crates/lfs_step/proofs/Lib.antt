@@ -1,5 +1,6 @@
 pub mod ContentsLemmas
 pub mod BetweenLemmas
+pub mod Bounds
 pub mod AppendingLemmas
 pub mod LogLemmas
 pub mod OutcomeLemmas

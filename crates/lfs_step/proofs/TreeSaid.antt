@@ -1,5 +1,5 @@
 -- The commands of a change of a tree that is accepted make the tree that it says.
-use Rattle.std.proofs.Common.{◌≡◌, ℕ, Bool, true, false, List, [], ◌∷◌, ◌++◌, Bor, Option, Some, None, All, refl, ap, sym, ◌∙◌, subst, inl, inr}
+use Rattle.std.proofs.Common.{◌≡◌, ℕ, Bool, true, false, List, [], ◌∷◌, ◌++◌, Bor, Option, Some, None, All, refl, ap, sym, ◌∙◌, subst, inl, inr, map}
 use Rattle.std.proofs.Common.{append-nil}
 use Rattle.std.specs.Prelude.{if◌then◌else◌, is_none, is_some}
 use Rattle.std.proofs.lemmas.List.Elements.{All-cons, All-nil}
@@ -15,7 +15,7 @@ use Rattle.lfs_fs.specs.Row.{PathsAreOrdered}
 use Rattle.lfs_fs.specs.Tree.{Dir, File, Node, tree}
 use Rattle.lfs_fs.specs.Volume.{Volume}
 use Rattle.lfs_command.specs.declared.refusal.Refusal.TheVariants.{Exists, IsRoot, NotFound}
-use Rattle.lfs_command.specs.Command.{Asked, Command, HasNames, Mkdir, Put, Rm, on_paths}
+use Rattle.lfs_command.specs.Command.{Asked, Command, HasNames, Mkdir, Put, Rm, on_paths, bounded}
 use Rattle.lfs_command.specs.Equation.{attributes_at}
 use Rattle.lfs_command.specs.PathMap.{below, same_path}
 use Rattle.lfs_command.specs.Planned.{Plans}
@@ -39,6 +39,7 @@ use Rattle.lfs_sync.proofs.SpelledLemmas.{AsksAt, none_spelled, one_command}
 use Rattle.lfs_sync.proofs.SyncedLemmas.{equal_by_rows, synced_by_rows}
 use Rattle.lfs_step.specs.TreeChanging.{ChangeAsksFor, Changing, IsAskedOf, IsChangeInRange}
 use Rattle.lfs_step.specs.TreeLaws.{PutsFile, said, text_of}
+use Rattle.lfs_step.proofs.Bounds.{bounded_named, same_equations}
 
 -- ---- trees that are the same at each path
 
@@ -46,11 +47,11 @@ pub same_said : (changing : Changing) (range : IsChangeInRange changing) (path :
     → (p : Path) → said changing range path t p ≡ said changing range path u p
 same_said (change.Remove at) range path t u same p = ap (λ (o : Option Node). if is_some (below path p) then None else o) (same p)
 same_said (change.Make at) range path t u same p = ap (with_parents_by (below p path)) (same p)
-same_said (change.Put at bytes) range path t u same p =
+same_said (change.Put at bytes most) range path t u same p =
     ap (λ (o : Option Node). if same_path path p then Some (File bytes.now (attributes_at o)) else with_parents path t p) (same path)
     ∙ ap (λ (o : Option Node). if same_path path p then Some (File bytes.now (attributes_at (u path))) else with_parents_by (below p path) o)
     (same p)
-same_said (change.Sync at rows) range path t u same p = ap (synced_by (below path p) range.0) (same p)
+same_said (change.Sync at rows most) range path t u same p = ap (synced_by (below path p) range.0) (same p)
 
 -- ---- a command alone that is carried out
 
@@ -159,38 +160,41 @@ module _ (texts : TextsSpellOnePath) (one : VolumesAreOne) (order : PathsAreOrde
   }
   made at range (inr (none, are)) = absurd (no_path at.now (Mkdir at.now) d asked refl none are takes)
 
-  put : (at bytes : Bor (List ℕ)) (range : _) → ChangeAsksFor (change.Put at bytes) d m t asked → SaysCommands (change.Put at bytes) range t asked
-  put at bytes range (inl (path, spelled, are)) = record {
+  put : (at bytes : Bor (List ℕ)) (most : ℕ) (range : _) → ChangeAsksFor (change.Put at bytes most) d m t asked → SaysCommands (change.Put at bytes most) range t asked
+  put at bytes most range (inl (path, spelled, are)) = record {
     path = path;
     spelled = spelled;
-    commands = put_commands t path bytes.now;
+    commands = map (bounded most) (put_commands t path bytes.now);
     are = are;
-    named = put_named t path bytes.now spelled.0;
-    make = put_is_with_file t path bytes.now (trees_are_rooted is.volume).0;
+    named = bounded_named most (put_commands t path bytes.now) (put_named t path bytes.now spelled.0);
+    make = λ p. ap (λ (u : Path → Option Node). u p) (same_equations most (put_commands t path bytes.now) t)
+        ∙ put_is_with_file t path bytes.now (trees_are_rooted is.volume).0 p;
   }
-  put at bytes range (inr (none, are)) = absurd (no_path at.now (Put at.now bytes.now) d asked refl none are takes)
+  put at bytes most range (inr (none, are)) = absurd (no_path at.now (Put at.now bytes.now most) d asked refl none are takes)
 
-  became : (at : Bor (List ℕ)) (rows : Bor (List SyncRow)) (range : SayFolder rows.now)
-      → IsAskedOf at.now (Mkdir at.now) (λ path. sync_commands path (rows_at path) range.0) asked
-      → SaysCommands (change.Sync at rows) range t asked
-  became at rows range (inl (path, spelled, are)) =
+  became : (at : Bor (List ℕ)) (rows : Bor (List SyncRow)) (most : ℕ) (range : SayFolder rows.now)
+      → IsAskedOf at.now (Mkdir at.now) (λ path. map (bounded most) (sync_commands path (rows_at path) range.0)) asked
+      → SaysCommands (change.Sync at rows most) range t asked
+  became at rows most range (inl (path, spelled, are)) =
       let there = held d m is path disk in record {
         path = path;
         spelled = spelled;
-        commands = sync_commands path (rows_at path) range.0;
+        commands = map (bounded most) (sync_commands path (rows_at path) range.0);
         are = are;
-        named = sync_named path (rows_at path) range.0 (held_named is.volume is.sound path (rows_at path) there)
-            (wanted_named path range.0 spelled.0 (rows_named rows.now range.0 range.1.each));
-        make = synced_by_rows order t path (rows_at path) range.0 there range.1.rise (rows_bare rows.now range.0 range.1.each);
+        named = bounded_named most (sync_commands path (rows_at path) range.0)
+            (sync_named path (rows_at path) range.0 (held_named is.volume is.sound path (rows_at path) there)
+            (wanted_named path range.0 spelled.0 (rows_named rows.now range.0 range.1.each)));
+        make = λ p. ap (λ (u : Path → Option Node). u p) (same_equations most (sync_commands path (rows_at path) range.0) t)
+            ∙ synced_by_rows order t path (rows_at path) range.0 there range.1.rise (rows_bare rows.now range.0 range.1.each) p;
       }
-  became at rows range (inr (none, are)) = absurd (no_path at.now (Mkdir at.now) d asked refl none are takes)
+  became at rows most range (inr (none, are)) = absurd (no_path at.now (Mkdir at.now) d asked refl none are takes)
 
   pub says_commands : (changing : Changing) (range : IsChangeInRange changing) → ChangeAsksFor changing d m t asked
       → SaysCommands changing range t asked
   says_commands (change.Remove at) range asks = removed at range asks
   says_commands (change.Make at) range asks = made at range asks
-  says_commands (change.Put at bytes) range asks = put at bytes range asks
-  says_commands (change.Sync at rows) range asks = became at rows range (asks range.0 range.1)
+  says_commands (change.Put at bytes most) range asks = put at bytes most range asks
+  says_commands (change.Sync at rows most) range asks = became at rows most range (asks range.0 range.1)
 
   -- ---- a tree that is there already
 
@@ -234,8 +238,8 @@ module _ (texts : TextsSpellOnePath) (one : VolumesAreOne) (order : PathsAreOrde
       (at_path at.now (Rm at.now) (λ p. remove_commands p (rows_at p)) path refl spelled asks))
   no_commands (change.Make at) range path asks other spelled same =
       make_nothing path spelled.0 same (at_path at.now (Mkdir at.now) (make_commands t) path refl spelled asks)
-  no_commands (change.Put at bytes) range path asks other spelled same = absurd (other tt)
-  no_commands (change.Sync at rows) range path asks other spelled same =
-      at_path at.now (Mkdir at.now) (λ p. sync_commands p (rows_at p) range.0) path refl spelled (asks range.0 range.1)
-      ∙ ap in_texts
+  no_commands (change.Put at bytes most) range path asks other spelled same = absurd (other tt)
+  no_commands (change.Sync at rows most) range path asks other spelled same =
+      at_path at.now (Mkdir at.now) (λ p. map (bounded most) (sync_commands p (rows_at p) range.0)) path refl spelled (asks range.0 range.1)
+      ∙ ap (λ (l : List Command). in_texts (map (bounded most) l))
       (equal_by_rows t path (rows_at path) range.0 (held d m is path disk) (rows_right order range.0 range.1.rise) same)

@@ -15,15 +15,15 @@ use Rattle.lfs_sync.specs.Synced.{synced, with_file, with_parents, without_below
 abbrev pub text_of : Changing → List ℕ
 text_of (change.Remove at) = at.now
 text_of (change.Make at) = at.now
-text_of (change.Put at bytes) = at.now
-text_of (change.Sync at rows) = at.now
+text_of (change.Put at bytes most) = at.now
+text_of (change.Sync at rows most) = at.now
 
 -- the tree that a change says at its path: without_below what is there, with a directory or a file there, or with what the folder has
 abbrev pub said : (changing : Changing) → IsChangeInRange changing → Path → (Path → Option Node) → Path → Option Node
 said (change.Remove at) range path tree = without_below path tree
 said (change.Make at) range path tree = with_parents path tree
-said (change.Put at bytes) range path tree = with_file path bytes.now tree
-said (change.Sync at rows) range path tree = synced path range.0 tree
+said (change.Put at bytes most) range path tree = with_file path bytes.now tree
+said (change.Sync at rows most) range path tree = synced path range.0 tree
 
 -- its text spells a path, and an image mounts to the tree that it says there
 pub record IsAsSaid (changing : Changing) (range : IsChangeInRange changing) (tree : Path → Option Node) (e : Disk) : Type 0 where
@@ -39,7 +39,7 @@ TreesAreChanged = (changing : Changing) (range : IsChangeInRange changing) (keep
 
 -- a file is put whatever is there
 abbrev pub PutsFile : Changing → Type 0
-PutsFile (change.Put at bytes) = Unit {0}
+PutsFile (change.Put at bytes most) = Unit {0}
 PutsFile _ = ⊥
 
 -- the law: where the tree is what an accepted change says, the image stays byte for byte; but a file is put

@@ -1,21 +1,22 @@
 //! Changes of whole trees.
 
-ghost use Rattle.std.specs.Prelude.{◌≡◌, ◌∷◌, [], ℕ, List, false, IfErr, IfOk};
+ghost use Rattle.std.specs.Prelude.{◌≡◌, ◌∷◌, [], ℕ, List, false, map, IfErr, IfOk};
 ghost use Rattle.lfs_block.specs.Disk.{IsDisk, image_of};
 ghost use Rattle.lfs_change.specs.Change.{AnswersChange, RefusesImage};
+ghost use Rattle.lfs_command.specs.Command.{bounded};
 ghost use Rattle.lfs_fs.specs.Mounted.{IsMountOf};
 ghost use Rattle.lfs_history.specs.Taking.{MayKeep, Move, Together};
 ghost use Rattle.lfs_request.specs.Fault.{blames_output, status_of};
 ghost use Rattle.lfs_step.specs.Outcome.{Answers, given};
-ghost use Rattle.lfs_step.specs.TreeChanging.{IsAsked, IsChangeInRange, rows_in};
-ghost use Rattle.lfs_step.specs.declared.step.Step.TheVariants.{Tree};
+ghost use Rattle.lfs_step.specs.TreeChanging.{IsAsked, IsChangeInRange, asked_by};
 ghost use Rattle.lfs_sync.specs.Planned.{plan_asked};
+ghost use Rattle.lfs_step.specs.declared.step.Step.TheVariants.{Tree};
 
 use lfs_block::{Blocks, Image};
 use lfs_change::changed;
 use lfs_command::Refusal;
-use lfs_fs::{Mounted, mount};
-use lfs_history::Move;
+use lfs_fs::{MOST_HELD, Mounted, mount};
+use lfs_history::{Move, Terms};
 use lfs_request::{Fault, Outcome, TreeChange};
 use lfs_sync::{
     Planned, PlannedKind, SyncRow, commands_of, make_plan, put_plan, remove_plan, sync_plan,
@@ -78,7 +79,7 @@ fn image_changed(
 /// The commands that follow from an image. What was mounted isn't given back to the allocator, since the program ends behind its change.
 fn plan_of(alloc: Global, change: &Changing<'_>, image: &Image) -> Result<Vec<Planned>, Fault>
     requires { IsChangeInRange change.now }
-    ensures planned { IfOk result (λ plan. IsAsked change.now image.now.disk (plan_asked (rows_in change.now) plan.items)) }
+    ensures planned { IfOk result (λ plan. IsAsked change.now image.now.disk (asked_by change.now plan.items)) }
     ensures refused { IfErr result (λ fault. (at : ℕ) (journal : List ℕ) → RefusesImage [] at image.now.disk journal fault) }
     ensures silent { IfErr result (λ fault. blames_output (Some fault) ≡ false) }
 {
@@ -97,13 +98,13 @@ fn mounted_plan(
 ) -> Result<Vec<Planned>, AllocError>
     requires mounted { IsMountOf image.now.disk mounted.now }
     requires range { IsChangeInRange change.now }
-    ensures { IfOk result (λ plan. IsAsked change.now image.now.disk (plan_asked (rows_in change.now) plan.items)) }
+    ensures { IfOk result (λ plan. IsAsked change.now image.now.disk (asked_by change.now plan.items)) }
 {
     match change {
         TreeChange::Remove { path } => remove_plan(alloc, mounted, path),
         TreeChange::Make { path } => make_plan(alloc, mounted, path),
         TreeChange::Put { path, .. } => put_plan(alloc, mounted, path),
-        TreeChange::Sync { path, rows } => sync_plan(alloc, image, mounted, path, rows),
+        TreeChange::Sync { path, rows, .. } => sync_plan(alloc, image, mounted, path, rows),
     }
 }
 
@@ -119,48 +120,55 @@ fn plan_changed(
 ) -> Outcome
     requires keep { MayKeep keep }
     requires disk { IsDisk (image_of size image.items) }
-    ensures answers { AnswersChange result.fault (Together (plan_asked (rows_in change.now) plan.now) keep ∷ []) size image.items journal.items result }
+    ensures answers { AnswersChange result.fault (Together (asked_by change.now plan.now) keep ∷ []) size image.items journal.items result }
     ensures failed { blames_output result.fault ≡ false }
     ensures status { result.status ≡ status_of result.fault }
 {
     match change {
-        TreeChange::Put { path, bytes } => {
+        TreeChange::Put { path, bytes, most } => {
             let row = SyncRow {
                 path,
                 bytes: Some(bytes),
             };
-            rows_changed(alloc, plan, &[row], keep, size, image, journal)
+            let terms = Terms { keep, most: *most };
+            rows_changed(alloc, plan, &[row], terms, size, image, journal)
         }
-        TreeChange::Sync { rows, .. } => {
-            rows_changed(alloc, plan, rows, keep, size, image, journal)
+        TreeChange::Sync { rows, most, .. } => {
+            let terms = Terms { keep, most: *most };
+            rows_changed(alloc, plan, rows, terms, size, image, journal)
         }
         TreeChange::Remove { .. } | TreeChange::Make { .. } => {
-            rows_changed(alloc, plan, &[], keep, size, image, journal)
+            let terms = Terms {
+                keep,
+                most: MOST_HELD,
+            };
+            rows_changed(alloc, plan, &[], terms, size, image, journal)
         }
     }
 }
 
-/// Carries out what is planned of rows.
+/// Carries out what is planned of rows, on these terms.
 fn rows_changed<'a>(
     alloc: Global,
     plan: &'a [Planned],
     rows: &'a [SyncRow<'a>],
-    keep: Option<u32>,
+    terms: Terms,
     size: u32,
     image: Vec<u8>,
     journal: Vec<u8>,
 ) -> Outcome
-    requires keep { MayKeep keep }
+    requires keep { MayKeep terms.keep }
     requires disk { IsDisk (image_of size image.items) }
-    ensures answers { AnswersChange result.fault (Together (plan_asked rows.now plan.now) keep ∷ []) size image.items journal.items result }
+    ensures answers { AnswersChange result.fault (Together (map (bounded terms.most) (plan_asked rows.now plan.now)) terms.keep ∷ [])
+        size image.items journal.items result }
     ensures failed { blames_output result.fault ≡ false }
     ensures status { result.status ≡ status_of result.fault }
 {
-    match commands_of(alloc, plan, rows) {
+    match commands_of(alloc, plan, rows, terms.most) {
         Ok(commands) => {
             let change = [Move::Together {
                 commands: &commands,
-                keep,
+                keep: terms.keep,
             }];
             changed(alloc, &change, size, image, journal)
         }

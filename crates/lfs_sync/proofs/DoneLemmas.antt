@@ -18,7 +18,7 @@ use Rattle.lfs_sync.specs.Synced.{equations_of}
 -- a directory is made, a file put or something removed
 abbrev pub IsSimple : Command → Type 0
 IsSimple (Mkdir p) = Unit {0}
-IsSimple (Put p bytes) = Unit {0}
+IsSimple (Put p bytes most) = Unit {0}
 IsSimple (Rm p) = Unit {0}
 IsSimple (Mv p q) = ⊥
 IsSimple (SetAttr p k value) = ⊥
@@ -28,7 +28,7 @@ IsSimple (Grow n) = ⊥
 -- what such a command leaves at a path, of what was there
 abbrev pub done_at : Path → Command → Option Node → Option Node
 done_at path (Mkdir p) old = if same_path p path then Some (Dir []) else old
-done_at path (Put p bytes) old = if same_path p path then Some (File bytes (attributes_at old)) else old
+done_at path (Put p bytes most) old = if same_path p path then Some (File bytes (attributes_at old)) else old
 done_at path (Rm p) old = if same_path p path then None else old
 done_at path (Mv p q) old = old
 done_at path (SetAttr p k value) old = old
@@ -48,7 +48,7 @@ put_by false p path bytes tree same = refl
 
 done_one : (c : Command) → IsSimple c → (tree : Path → Option Node) (path : Path) → equation c tree path ≡ done_at path c (tree path)
 done_one (Mkdir p) simple tree path = refl
-done_one (Put p bytes) simple tree path = put_by (same_path p path) p path bytes tree (same_path_decides p path).0
+done_one (Put p bytes most) simple tree path = put_by (same_path p path) p path bytes tree (same_path_decides p path).0
 done_one (Rm p) simple tree path = refl
 done_one (Mv p q) simple tree path = absurd simple
 done_one (SetAttr p k value) simple tree path = absurd simple

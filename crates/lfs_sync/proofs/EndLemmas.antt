@@ -8,6 +8,7 @@ use Rattle.std.specs.Option.{unwrap_or}
 use Rattle.std.proofs.lemmas.List.{map-append}
 use Rattle.lfs_block.specs.Disk.{Disk}
 use Rattle.lfs_meta.specs.Name.{Name}
+use Rattle.lfs_fs.specs.Limits.{most_held}
 use Rattle.lfs_fs.specs.Mounted.{IsMountOf, MountedValue}
 use Rattle.lfs_fs.specs.Path.{IsNoPath, IsPathText, Path, path_text}
 use Rattle.lfs_fs.specs.Tree.{tree}
@@ -63,15 +64,15 @@ module _ (d : Disk) (m : MountedValue) (is : IsMountOf d m) (rows : List SyncRow
       )
 
   pub put_some : (asked : List Asked)
-      → asked ≡ in_texts (lacking (tree m.outline) [] p) ++ Put (path_text p) (unwrap_or (bytes_at rows 0) []) ∷ []
+      → asked ≡ in_texts (lacking (tree m.outline) [] p) ++ Put (path_text p) (unwrap_or (bytes_at rows 0) []) most_held ∷ []
       → IsPlanOf text (kind.File 0) (λ (path : Path). put_commands (tree is.volume) path (unwrap_or (bytes_at rows 0) [])) rows asked
   put_some asked planned =
       inl (
         p,
         spelled,
         planned
-            ∙ ap (λ (l : List Command). in_texts l ++ Put (path_text p) (unwrap_or (bytes_at rows 0) []) ∷ []) (same_lacking d m is [] p)
-            ∙ sym (texts_end (lacking (tree is.volume) [] p) (Put p (unwrap_or (bytes_at rows 0) []))),
+            ∙ ap (λ (l : List Command). in_texts l ++ Put (path_text p) (unwrap_or (bytes_at rows 0) []) most_held ∷ []) (same_lacking d m is [] p)
+            ∙ sym (texts_end (lacking (tree is.volume) [] p) (Put p (unwrap_or (bytes_at rows 0) []) most_held)),
       )
 
 -- ---- removals

@@ -6,6 +6,7 @@ use Rattle.std.proofs.lemmas.List.{reverse-append}
 use Rattle.std.proofs.lemmas.List.Elements.{All-append, All-cons, All-filter, All-from_recursion, All-head, All-map, All-nil, All-push, All-tail}
 use Rattle.std.proofs.lemmas.List.Elements.{All-weaker}
 use Rattle.lfs_meta.specs.Name.{IsName}
+use Rattle.lfs_fs.specs.Limits.{most_held}
 use Rattle.lfs_fs.specs.Path.{Path}
 use Rattle.lfs_fs.specs.Sound.{IsSound}
 use Rattle.lfs_fs.specs.Tree.{Dir, File, Node, entry_at, tree}
@@ -95,8 +96,8 @@ make_named tree to names = by (is_directory (tree to))
 
 pub put_named : (tree : Path → Option Node) (to : Path) (bytes : _) → All IsName to → All HasNames (put_commands tree to bytes)
 put_named tree to bytes names =
-    All-append HasNames (lacking tree [] to) (Put to bytes ∷ []) (lacking_named tree [] to names)
-    (one_command (Put to bytes) (one_path to names))
+    All-append HasNames (lacking tree [] to) (Put to bytes most_held ∷ []) (lacking_named tree [] to names)
+    (one_command (Put to bytes most_held) (one_path to names))
 
 -- those of an image's rows are
 pub held_named : (v : Volume) → IsSound v → (at : Path) (held : List Shown) → AreHeld (tree v) at held → AreNamed at held

@@ -5,6 +5,7 @@ use Rattle.std.specs.Prelude.{bytes_eq, if◌then◌else◌, is_some, ◌&&◌}
 use Rattle.std.specs.List.{AllByRecursion}
 use Rattle.std.proofs.lemmas.Slice.Eq.{bytes_eq-Decides}
 use Rattle.lfs_meta.specs.Name.{Name}
+use Rattle.lfs_fs.specs.Limits.{most_held}
 use Rattle.lfs_fs.specs.Path.{Path}
 use Rattle.lfs_fs.specs.Tree.{Node, Dir, File}
 use Rattle.lfs_fs.proofs.EntryAtLemmas.{by_last_name}
@@ -241,7 +242,7 @@ file_by b here bytes old = if b then Some (File bytes (attributes_at here)) else
 
 -- what is put, of what the others leave
 put_by_rest : (tree : Path → Option Node) (to : Path) (bytes : List ℕ) (path : Path) (left : Option Path) → below path to ≡ left
-    → done_all path (Put to bytes ∷ []) (parent_by left (tree path) (tree path))
+    → done_all path (Put to bytes most_held ∷ []) (parent_by left (tree path) (tree path))
     ≡ file_by (same_path to path) (tree to) bytes (with_parents_by left (tree path))
 put_by_rest tree to bytes path None outside =
     let other = other_prefix to path outside in
@@ -266,19 +267,19 @@ top_stays [] (Some x) top = refl
 top_stays (m ∷ to) (Some x) top = refl
 
 module _ (tree : Path → Option Node) (to : Path) (bytes : List ℕ) (top : is_directory (tree []) ≡ true) where
-  put_simple : AllByRecursion IsSimple (lacking tree [] to ++ Put to bytes ∷ [])
-  put_simple = simple_append (lacking tree [] to) (Put to bytes ∷ []) (lacking_simple tree [] to) (tt, tt)
+  put_simple : AllByRecursion IsSimple (lacking tree [] to ++ Put to bytes most_held ∷ [])
+  put_simple = simple_append (lacking tree [] to) (Put to bytes most_held ∷ []) (lacking_simple tree [] to) (tt, tt)
 
-  put_there : (path : Path) → done_all path (lacking tree [] to ++ Put to bytes ∷ []) (tree path) ≡ with_file to bytes tree path
+  put_there : (path : Path) → done_all path (lacking tree [] to ++ Put to bytes most_held ∷ []) (tree path) ≡ with_file to bytes tree path
   put_there [] =
-      done_append [] (lacking tree [] to) (Put to bytes ∷ []) (tree [])
-      ∙ ap (done_all [] (Put to bytes ∷ [])) (lacking_itself tree [] to (tree []) ∙ top_stays to (tree []) top)
+      done_append [] (lacking tree [] to) (Put to bytes most_held ∷ []) (tree [])
+      ∙ ap (done_all [] (Put to bytes most_held ∷ [])) (lacking_itself tree [] to (tree []) ∙ top_stays to (tree []) top)
       ∙ put_by_rest tree to bytes [] (Some to) refl
   put_there (k ∷ q) =
-      done_append (k ∷ q) (lacking tree [] to) (Put to bytes ∷ []) (tree (k ∷ q))
-      ∙ ap (done_all (k ∷ q) (Put to bytes ∷ [])) (lacks_at tree [] to k q (tree (k ∷ q)))
+      done_append (k ∷ q) (lacking tree [] to) (Put to bytes most_held ∷ []) (tree (k ∷ q))
+      ∙ ap (done_all (k ∷ q) (Put to bytes most_held ∷ [])) (lacks_at tree [] to k q (tree (k ∷ q)))
       ∙ put_by_rest tree to bytes (k ∷ q) (below (k ∷ q) to) refl
 
 pub put_is_with_file : PutIsWithFile
 put_is_with_file tree to bytes top path =
-    done_is (lacking tree [] to ++ Put to bytes ∷ []) (put_simple tree to bytes top) tree path ∙ put_there tree to bytes top path
+    done_is (lacking tree [] to ++ Put to bytes most_held ∷ []) (put_simple tree to bytes top) tree path ∙ put_there tree to bytes top path

@@ -15,9 +15,11 @@ same_path texts p q ps qs first second same =
 
 pub one_command : TextsSpellOnePath → (c d : Command) → HasNames c → HasNames d → on_paths path_text c ≡ on_paths path_text d → d ≡ c
 one_command texts (Mkdir p) (Mkdir q) first second same = ap (λ (l : Path). Mkdir l) (sym (same_path texts p q [] [] first second cc))
-one_command texts (Put p bytes) (Put q others) first second same =
+one_command texts (Put p bytes most) (Put q others bound) first second same =
     let contents : bytes ≡ others = cc in
-    ap (λ (l : Path). Put l others) (sym (same_path texts p q [] [] first second cc)) ∙ ap (λ (l : List ℕ). Put p l) (sym contents)
+    let bounds : most ≡ bound = cc in
+    ap (λ (l : Path). Put l others bound) (sym (same_path texts p q [] [] first second cc))
+    ∙ ap (λ (l : List ℕ). Put p l bound) (sym contents) ∙ ap (λ (n : ℕ). Put p bytes n) (sym bounds)
 one_command texts (Rm p) (Rm q) first second same = ap (λ (l : Path). Rm l) (sym (same_path texts p q [] [] first second cc))
 one_command texts (Mv p r) (Mv q s) first second same =
     ap (λ (l : Path). Mv l s) (sym (same_path texts p q (r ∷ []) (s ∷ []) first second cc))
@@ -49,7 +51,7 @@ texts_spell_their_commands texts (c ∷ cs) (d ∷ ds) named spelled =
 -- a command at one path, which has this text
 abbrev pub AsksAt : List ℕ → Asked → Type 0
 AsksAt text (Mkdir at) = at ≡ text
-AsksAt text (Put at bytes) = at ≡ text
+AsksAt text (Put at bytes most) = at ≡ text
 AsksAt text (Rm at) = at ≡ text
 AsksAt text _ = ⊥
 
@@ -62,6 +64,6 @@ none_spelled text asked c at none spells = by c spells.0 (subst (AsksAt text) sp
 
     by : (d : Command) → HasNames d → AsksAt text (on_paths path_text d) → ⊥
     by (Mkdir p) names same = named p names same
-    by (Put p bytes) names same = named p names same
+    by (Put p bytes most) names same = named p names same
     by (Rm p) names same = named p names same
     by _ names same = absurd same

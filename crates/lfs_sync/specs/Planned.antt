@@ -1,6 +1,7 @@
 -- Commands that are planned, as the code has them (own).
 use Rattle.std.specs.Prelude.{◌≡◌, ◌⊎◌, ℕ, List, [], ◌∷◌, map}
 use Rattle.std.specs.Option.{unwrap_or}
+use Rattle.lfs_fs.specs.Limits.{most_held}
 use Rattle.lfs_fs.specs.Path.{Path, IsNoPath, IsPathText, path_text}
 use Rattle.lfs_command.specs.Command.{Asked, Command, Mkdir, Put, Rm, on_paths}
 use Rattle.lfs_sync.specs.SyncRows.{bytes_at}
@@ -13,7 +14,7 @@ use Rattle.lfs_sync.specs.declared.sync_row.SyncRow.{SyncRow}
 abbrev pub kind_asked : List SyncRow → List ℕ → PlannedKind → Asked
 kind_asked rows text kind.Removal = Rm text
 kind_asked rows text kind.Directory = Mkdir text
-kind_asked rows text (kind.File place) = Put text (unwrap_or (bytes_at rows place) [])
+kind_asked rows text (kind.File place) = Put text (unwrap_or (bytes_at rows place) []) most_held
 
 -- the command that is asked for, over the rows
 abbrev pub planned_asked : List SyncRow → Planned → Asked

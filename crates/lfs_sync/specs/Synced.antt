@@ -2,6 +2,7 @@
 use Rattle.std.specs.Prelude.{ℕ, Bool, true, false, List, [], ◌∷◌, ◌++◌, Option, Some, None, if◌then◌else◌, bytes_eq, not}
 use Rattle.std.specs.Prelude.{◌&&◌, is_some, map, reverse}
 use Rattle.std.specs.List.{filter}
+use Rattle.lfs_fs.specs.Limits.{most_held}
 use Rattle.lfs_fs.specs.Path.{Path}
 use Rattle.lfs_fs.specs.Tree.{Node, File, Dir}
 use Rattle.lfs_command.specs.Command.{Command, Mkdir, Put, Rm}
@@ -55,7 +56,7 @@ abbrev pub removing : Path → Shown → Command
 removing at r = Rm (at ++ r.path)
 
 abbrev pub making_node : Path → Node → Command
-making_node p (File bytes a) = Put p bytes
+making_node p (File bytes a) = Put p bytes most_held
 making_node p (Dir a) = Mkdir p
 
 abbrev pub making_row : Path → Shown → Command
@@ -98,7 +99,7 @@ make_commands tree path = if is_directory (tree path) then [] else lacking tree 
 
 -- `put -p`
 abbrev pub put_commands : (Path → Option Node) → Path → List ℕ → List Command
-put_commands tree path bytes = lacking tree [] path ++ Put path bytes ∷ []
+put_commands tree path bytes = lacking tree [] path ++ Put path bytes most_held ∷ []
 
 -- ---- the tree
 

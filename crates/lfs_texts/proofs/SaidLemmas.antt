@@ -1,10 +1,11 @@
 -- What lines with their words ask for.
 use Rattle.std.proofs.Common.{◌≡◌, ◌∙◌, ℕ, List, [], ◌∷◌, ◌++◌, Option, Some, None, sym, ap, subst, refl, append_assoc, append-nil}
 use Rattle.std.specs.List.{AllByRecursion, AllZip}
+use Rattle.lfs_history.specs.declared.terms.Terms.{Terms}
 use Rattle.lfs_texts.specs.Flaws.{known_flaw}
 use Rattle.lfs_texts.specs.Lines.{IsLineFault, LineSays}
 use Rattle.lfs_texts.specs.Script.{AreSplit, HasItsWords, IsFirstFault, IsFirstSilent, IsLineWords, IsLineSaid, NumberedLine, SaysLine, TakesStep, asking_lines}
-use Rattle.lfs_texts.specs.Steps.{Keeps}
+use Rattle.lfs_texts.specs.Steps.{IsOnTerms}
 use Rattle.lfs_texts.specs.declared.line_words.LineWords.{LineWords}
 use Rattle.lfs_texts.specs.declared.script_fault.ScriptFault.{ScriptFault}
 use Rattle.lfs_texts.specs.declared.script_line.ScriptLine.{ScriptLine}
@@ -12,21 +13,21 @@ use Rattle.lfs_texts.specs.declared.script_line.ScriptLine.{ScriptLine}
 -- ---- one after another
 
 -- of some lines these are left, and what the others ask for was taken
-pub record HasTaken (keep : Option ℕ) (lines left : List LineWords) (said : List ScriptLine) : Type 0 where
+pub record HasTaken (terms : Terms) (lines left : List LineWords) (said : List ScriptLine) : Type 0 where
   pub before : List LineWords
   pub apart : lines ≡ before ++ left
   pub says : AllZip IsLineSaid before said
-  pub keeps : AllByRecursion (λ (s : ScriptLine). Keeps keep s.step) said
+  pub keeps : AllByRecursion (λ (s : ScriptLine). IsOnTerms terms s.step) said
   pub words : AllByRecursion HasItsWords left
 
 -- none, so far
-pub none_taken : (keep : Option ℕ) (lines left : List LineWords) (said : List ScriptLine) → left ≡ lines → said ≡ []
-    → AllByRecursion HasItsWords lines → HasTaken keep lines left said
-none_taken keep lines left said is none words = record {
+pub none_taken : (terms : Terms) (lines left : List LineWords) (said : List ScriptLine) → left ≡ lines → said ≡ []
+    → AllByRecursion HasItsWords lines → HasTaken terms lines left said
+none_taken terms lines left said is none words = record {
   before = [];
   apart = sym is;
   says = subst (AllZip IsLineSaid []) (sym none) tt;
-  keeps = subst (AllByRecursion (λ (s : ScriptLine). Keeps keep s.step)) (sym none) tt;
+  keeps = subst (AllByRecursion (λ (s : ScriptLine). IsOnTerms terms s.step)) (sym none) tt;
   words = subst (AllByRecursion HasItsWords) (sym is) words;
 }
 
@@ -37,38 +38,38 @@ says_more [] (s ∷ said) line one all is = absurd all
 says_more (l ∷ lines) [] line one all is = absurd all
 says_more (l ∷ lines) (s ∷ said) line one all is = (all.0, says_more lines said line one all.1 is)
 
-keeps_more : (keep : Option ℕ) (said : List ScriptLine) (one : ScriptLine) → AllByRecursion (λ (s : ScriptLine). Keeps keep s.step) said
-    → Keeps keep one.step → AllByRecursion (λ (s : ScriptLine). Keeps keep s.step) (said ++ one ∷ [])
-keeps_more keep [] one all is = (is, tt)
-keeps_more keep (s ∷ said) one all is = (all.0, keeps_more keep said one all.1 is)
+keeps_more : (terms : Terms) (said : List ScriptLine) (one : ScriptLine) → AllByRecursion (λ (s : ScriptLine). IsOnTerms terms s.step) said
+    → IsOnTerms terms one.step → AllByRecursion (λ (s : ScriptLine). IsOnTerms terms s.step) (said ++ one ∷ [])
+keeps_more terms [] one all is = (is, tt)
+keeps_more terms (s ∷ said) one all is = (all.0, keeps_more terms said one all.1 is)
 
 -- the words of the first that is left
 pub first_words : (left rest : List LineWords) (line : LineWords) → left ≡ line ∷ rest → AllByRecursion HasItsWords left → HasItsWords line
 first_words left rest line is words = (subst (AllByRecursion HasItsWords) is words).0
 
 -- one more
-pub one_taken : (keep : Option ℕ) (lines left rest : List LineWords) (line : LineWords) (old new : List ScriptLine) → HasTaken keep lines left old
-    → left ≡ line ∷ rest → TakesStep keep line old new → HasTaken keep lines rest new
-one_taken keep lines left rest line old new taken is (one, says, keeps, more) = record {
+pub one_taken : (terms : Terms) (lines left rest : List LineWords) (line : LineWords) (old new : List ScriptLine) → HasTaken terms lines left old
+    → left ≡ line ∷ rest → TakesStep terms line old new → HasTaken terms lines rest new
+one_taken terms lines left rest line old new taken is (one, says, keeps, more) = record {
   before = taken.before ++ line ∷ [];
   apart = taken.apart ∙ ap (λ (ls : List LineWords). taken.before ++ ls) is ∙ sym (append_assoc taken.before (line ∷ []) rest);
   says = subst (AllZip IsLineSaid (taken.before ++ line ∷ [])) (sym more) (says_more taken.before old line one taken.says says);
-  keeps = subst (AllByRecursion (λ (s : ScriptLine). Keeps keep s.step)) (sym more) (keeps_more keep old one taken.keeps keeps);
+  keeps = subst (AllByRecursion (λ (s : ScriptLine). IsOnTerms terms s.step)) (sym more) (keeps_more terms old one taken.keeps keeps);
   words = (subst (AllByRecursion HasItsWords) is taken.words).1;
 }
 
 -- all of them where none is left
-pub all_taken : (keep : Option ℕ) (lines left : List LineWords) (said : List ScriptLine) → HasTaken keep lines left said → left ≡ []
+pub all_taken : (terms : Terms) (lines left : List LineWords) (said : List ScriptLine) → HasTaken terms lines left said → left ≡ []
     → AllZip IsLineSaid lines said
-all_taken keep lines left said taken none =
+all_taken terms lines left said taken none =
     subst (λ (ls : List LineWords). AllZip IsLineSaid ls said)
     (sym (taken.apart ∙ ap (λ (ls : List LineWords). taken.before ++ ls) none ∙ append-nil taken.before)) taken.says
 
 -- one that says no step is the first
-pub first_silent : (keep : Option ℕ) (lines left rest : List LineWords) (line : LineWords) (said : List ScriptLine) (fault : ScriptFault)
-    → HasTaken keep lines left said → left ≡ line ∷ rest → fault.number ≡ line.number → IsLineFault line.line.now fault.fault
+pub first_silent : (terms : Terms) (lines left rest : List LineWords) (line : LineWords) (said : List ScriptLine) (fault : ScriptFault)
+    → HasTaken terms lines left said → left ≡ line ∷ rest → fault.number ≡ line.number → IsLineFault line.line.now fault.fault
     → fault.flaw ≡ known_flaw line.line.now fault.fault → IsFirstSilent lines fault
-first_silent keep lines left rest line said fault taken is number refused known = record {
+first_silent terms lines left rest line said fault taken is number refused known = record {
   line = line;
   before = taken.before;
   behind = rest;

@@ -13,11 +13,11 @@ use Rattle.lfs_texts.specs.Steps.{SaysCommand, SaysNone}
 put_says_no_command : (path file : List ℕ) → (IsUtf8 file → ⊥) → (command : Command (Bor (List ℕ)) Source)
     → SaysCommand (codes "put" ∷ path ∷ file ∷ []) command → ⊥
 put_says_no_command path file none (Mkdir p) says = absurd (cc)
-put_says_no_command path file none (Put p (File f)) says =
+put_says_no_command path file none (Put p (File f) most) says =
     let same : f.now ≡ file = ap (λ (words : List (List ℕ)). slice_index_or words 2 []) (sym says.1) in
     none (subst IsUtf8 same says.0)
-put_says_no_command path file none (Put p Input) says = absurd says
-put_says_no_command path file none (Put p (Said v)) says = absurd says
+put_says_no_command path file none (Put p Input most) says = absurd says
+put_says_no_command path file none (Put p (Said v) most) says = absurd says
 put_says_no_command path file none (Rm p) says = absurd (cc)
 put_says_no_command path file none (Mv p q) says = absurd (cc)
 put_says_no_command path file none (SetAttr p k (Said v)) says = elim says.2 [ inl one ↦ absurd (cc) | inr two ↦ absurd (cc) ]

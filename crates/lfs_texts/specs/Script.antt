@@ -2,9 +2,10 @@
 use Rattle.std.specs.Prelude.{◌≡◌, ◌⊎◌, ◌-◌, ◌==◌, ℕ, true, false, not, if◌then◌else◌, Option, Some, None, List, [], ◌∷◌, ◌++◌, filter, map, slice_get}
 use Rattle.std.specs.List.{AllZip, enumerate_from}
 use Rattle.bstr.specs.Text.{lines_of, without_terminator}
+use Rattle.lfs_history.specs.declared.terms.Terms.{Terms}
 use Rattle.lfs_texts.specs.Flaws.{known_flaw}
 use Rattle.lfs_texts.specs.Lines.{IsLineFault, LineSays, is_passed_over}
-use Rattle.lfs_texts.specs.Steps.{Keeps}
+use Rattle.lfs_texts.specs.Steps.{IsOnTerms}
 use Rattle.lfs_texts.specs.Words.{words_of}
 use Rattle.lfs_texts.specs.declared.line_words.LineWords.{LineWords}
 use Rattle.lfs_texts.specs.declared.script_line.ScriptLine.{ScriptLine}
@@ -82,9 +83,9 @@ AreSplit text lines (Some fault) = IsFirstWordless text lines fault
 abbrev pub IsLineSaid : LineWords → ScriptLine → Type 0
 IsLineSaid line said = (said.number ≡ line.number) × LineSays line.line.now said.step
 
--- so it does, behind the rest, with so many images of the past that are kept
-abbrev pub TakesStep : Option ℕ → LineWords → List ScriptLine → List ScriptLine → Type 0
-TakesStep keep line old new = (said : ScriptLine) × IsLineSaid line said × Keeps keep said.step × (new ≡ old ++ said ∷ [])
+-- so it does, after the rest, on these terms
+abbrev pub TakesStep : Terms → LineWords → List ScriptLine → List ScriptLine → Type 0
+TakesStep terms line old new = (said : ScriptLine) × IsLineSaid line said × IsOnTerms terms said.step × (new ≡ old ++ said ∷ [])
 
 -- the first of some lines that says no step, behind others that each say one, with what is wrong in it; or want of memory there
 pub record IsFirstSilent (lines : List LineWords) (fault : ScriptFault) : Type 0 where

@@ -1,5 +1,5 @@
 -- The step that words say (own).
-use Rattle.std.specs.Prelude.{◌≡◌, ◌⊎◌, ◌<◌, ◌^◌, ⊤, ℕ, Option, List, [], ◌∷◌, codes}
+use Rattle.std.specs.Prelude.{◌≡◌, ◌⊎◌, ◌<◌, ◌^◌, ⊤, ℕ, List, [], ◌∷◌, codes}
 use Rattle.std.specs.Borrow.{Bor}
 use Rattle.std.specs.Str.{IsUtf8}
 use Rattle.std.specs.Str.Parse.{IsNumeral, digits_value, without_leading_plus}
@@ -9,6 +9,7 @@ use Rattle.lfs_history.specs.declared.moves.Move.{Move}
 use Rattle.lfs_history.specs.declared.moves.Move.TheVariants.{Do, Together, Undo, Redo, Forget}
 use Rattle.lfs_history.specs.declared.source.Source.{Source}
 use Rattle.lfs_history.specs.declared.source.Source.TheVariants.{File, Said}
+use Rattle.lfs_history.specs.declared.terms.Terms.{Terms}
 use Rattle.lfs_texts.specs.Digits.{SpellsByte, SpellsBytes, SpellsNoByte, SpellsNoBytes}
 use Rattle.lfs_texts.specs.declared.line_fault.LineFault.{LineFault}
 use Rattle.lfs_texts.specs.declared.line_fault.LineFault.TheVariants.{Memory, BadHex, BadLine}
@@ -27,7 +28,7 @@ SaysSetAttr words path kind value = (digits : List ℕ) × SpellsByte digits kin
 -- words say a command, whose bytes are in a file of the host, or are said by digits; the name of a file is a text
 abbrev pub SaysCommand : List (List ℕ) → Command (Bor (List ℕ)) Source → Type 0
 SaysCommand words (Mkdir path) = words ≡ codes "mkdir" ∷ path.now ∷ []
-SaysCommand words (Put path (File name)) = IsUtf8 name.now × (words ≡ codes "put" ∷ path.now ∷ name.now ∷ [])
+SaysCommand words (Put path (File name) most) = IsUtf8 name.now × (words ≡ codes "put" ∷ path.now ∷ name.now ∷ [])
 SaysCommand words (Rm path) = words ≡ codes "rm" ∷ path.now ∷ []
 SaysCommand words (Mv from to) = words ≡ codes "mv" ∷ from.now ∷ to.now ∷ []
 SaysCommand words (SetAttr path kind (Said value)) = SaysSetAttr words path.now kind value.items
@@ -43,11 +44,16 @@ Says words (Undo steps) = (steps ≡ 1) × (words ≡ codes "undo" ∷ [])
 Says words (Redo steps) = (steps ≡ 1) × (words ≡ codes "redo" ∷ [])
 Says words Forget = words ≡ codes "forget" ∷ []
 
--- so many images of the past are kept behind a step that is a command
-abbrev pub Keeps : Option ℕ → Move Source → Type 0
-Keeps keep (Do command kept) = kept ≡ keep
-Keeps keep (Together commands kept) = kept ≡ keep
-Keeps keep step = ⊤
+-- a file is put with this bound for contents that stand in an entry
+abbrev pub IsBounded : ℕ → Command (Bor (List ℕ)) Source → Type 0
+IsBounded most (Put path bytes bound) = bound ≡ most
+IsBounded most command = ⊤
+
+-- a step that is a command is on these terms
+abbrev pub IsOnTerms : Terms → Move Source → Type 0
+IsOnTerms terms (Do command kept) = (kept ≡ terms.keep) × IsBounded terms.most command
+IsOnTerms terms (Together commands kept) = kept ≡ terms.keep
+IsOnTerms terms step = ⊤
 
 -- words say no step
 abbrev pub SaysNone : List (List ℕ) → Type 0

@@ -1,13 +1,14 @@
 //! The step that words say.
 
-ghost use Rattle.std.specs.Prelude.{◌≡◌, ◌↔◌, ◌∷◌, [], ℕ, Option, IfErr, IfOk, IsTrue, map};
-ghost use Rattle.lfs_texts.specs.Steps.{IsFault, Keeps, Says, SaysCommand};
+ghost use Rattle.std.specs.Prelude.{◌≡◌, ◌↔◌, ◌∷◌, [], ℕ, IfErr, IfOk, IsTrue, map};
+ghost use Rattle.lfs_history.specs.declared.terms.Terms.{Terms};
+ghost use Rattle.lfs_texts.specs.Steps.{IsBounded, IsFault, IsOnTerms, Says, SaysCommand};
 
 use crate::digits::{byte_of, bytes_of};
 use crate::line_fault::LineFault;
 use crate::number::number_of;
 use lfs_command::Command;
-use lfs_history::{Move, Source};
+use lfs_history::{Move, Source, Terms};
 use std::alloc::Global;
 use std::str::from_utf8;
 
@@ -21,7 +22,7 @@ fn is_word(word: &[u8], other: &str) -> bool
 /// The step that a verb alone says.
 fn verb_alone<'a>(verb: &[u8]) -> Result<Move<'a, Source<'a>>, LineFault>
     ensures says { IfOk result (λ step. Says (verb.now ∷ []) step) }
-    ensures keep { IfOk result (λ step. (keep : Option ℕ) → Keeps keep step) }
+    ensures terms { IfOk result (λ step. (terms : Terms) → IsOnTerms terms step) }
     ensures refused { IfErr result (λ fault. IsFault (verb.now ∷ []) fault) }
 {
     if is_word(verb, "undo") {
@@ -38,6 +39,7 @@ fn verb_alone<'a>(verb: &[u8]) -> Result<Move<'a, Source<'a>>, LineFault>
 /// The command that a verb says with one word behind it.
 fn with_one<'a>(verb: &[u8], first: &'a [u8]) -> Result<Command<&'a [u8], Source<'a>>, LineFault>
     ensures says { IfOk result (λ command. SaysCommand (verb.now ∷ first.now ∷ []) command) }
+    ensures bound { IfOk result (λ command. (most : ℕ) → IsBounded most command) }
     ensures refused { IfErr result (λ fault. IsFault (verb.now ∷ first.now ∷ []) fault) }
 {
     if is_word(verb, "mkdir") {
@@ -54,14 +56,17 @@ fn with_one<'a>(verb: &[u8], first: &'a [u8]) -> Result<Command<&'a [u8], Source
     }
 }
 
-/// The command that a verb says with two words behind it.
+/// The command that a verb says with two words after it; a file that is put stands in its entry if it has at most
+/// `most` bytes.
 fn with_two<'a>(
     alloc: Global,
     verb: &[u8],
     first: &'a [u8],
     second: &'a [u8],
+    most: u32,
 ) -> Result<Command<&'a [u8], Source<'a>>, LineFault>
     ensures says { IfOk result (λ command. SaysCommand (verb.now ∷ first.now ∷ second.now ∷ []) command) }
+    ensures bound { IfOk result (IsBounded most) }
     ensures refused { IfErr result (λ fault. IsFault (verb.now ∷ first.now ∷ second.now ∷ []) fault) }
 {
     if is_word(verb, "put") {
@@ -69,6 +74,7 @@ fn with_two<'a>(
             Ok(file) => Ok(Command::Put {
                 path: first,
                 bytes: Source::File(file),
+                most,
             }),
             Err(_) => Err(LineFault::BadLine),
         }
@@ -105,6 +111,7 @@ fn with_three<'a>(
     third: &[u8],
 ) -> Result<Command<&'a [u8], Source<'a>>, LineFault>
     ensures says { IfOk result (λ command. SaysCommand (verb.now ∷ first.now ∷ second.now ∷ third.now ∷ []) command) }
+    ensures bound { IfOk result (λ command. (most : ℕ) → IsBounded most command) }
     ensures refused { IfErr result (λ fault. IsFault (verb.now ∷ first.now ∷ second.now ∷ third.now ∷ []) fault) }
 {
     if !is_word(verb, "setattr") {
@@ -123,24 +130,27 @@ fn with_three<'a>(
     }
 }
 
-/// The step that words say; behind a command `keep` images of the past are kept. A fault where they say none: `BadHex` where only
+/// The step that words say, a command on these terms. A fault where they say none: `BadHex` where only
 /// the digits of an attribute's kind or value spell nothing, `BadLine` otherwise; `Memory` says only that a growth was refused.
 pub(crate) fn step_said<'a>(
     alloc: Global,
     words: &'a [Vec<u8>],
-    keep: Option<u32>,
+    terms: Terms,
 ) -> Result<Move<'a, Source<'a>>, LineFault>
     ensures says { IfOk result (λ step. Says (map (λ w. w.items) words.now) step) }
-    ensures keep { IfOk result (λ step. Keeps keep step) }
+    ensures terms { IfOk result (IsOnTerms terms) }
     ensures refused { IfErr result (λ fault. IsFault (map (λ w. w.items) words.now) fault) }
 {
     let command = match words {
         [] => return Err(LineFault::BadLine),
         [verb] => return verb_alone(verb),
         [verb, first] => with_one(verb, first)?,
-        [verb, first, second] => with_two(alloc, verb, first, second)?,
+        [verb, first, second] => with_two(alloc, verb, first, second, terms.most)?,
         [verb, first, second, third] => with_three(alloc, verb, first, second, third)?,
         [_, _, _, _, _, ..] => return Err(LineFault::BadLine),
     };
-    Ok(Move::Do { command, keep })
+    Ok(Move::Do {
+        command,
+        keep: terms.keep,
+    })
 }

@@ -10,7 +10,7 @@ ghost use Rattle.lfs_command.specs.Supplies.{Supplies};
 
 use crate::writing::changes_of;
 use lfs_block::{Blocks, Record};
-use lfs_command::{Command, Named, most_inline};
+use lfs_command::{Command, Named, inline_limit};
 use lfs_file::{laid_blocks_are_complete, lay};
 use std::alloc::{AllocError, Global};
 
@@ -49,7 +49,8 @@ pub fn laid_for<B: Blocks>(
         → AreLaidFor (B.disk image.now) v (named_command command.now) s changes.items) }
 {
     match command {
-        Command::Put { bytes, .. } if bytes.len() > most_inline(image.size()) as usize => {
+        Command::Put { bytes, most, .. }
+            if bytes.len() > inline_limit(image.size(), *most) as usize => {
             laid(alloc, image, bytes, blocks)
         }
         _ => Ok(Vec::new(alloc)),

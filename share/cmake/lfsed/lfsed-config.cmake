@@ -1,7 +1,7 @@
 # Images of littlefs as targets. Behind find_package(lfsed) there is the program's name, LFSED_PROGRAM, and a function:
 #
 #   lfsed_image(NAME FOLDER dir OUTPUT file [BLOCK bytes] COUNT n | SIZE bytes | LEAST [CHANGES script]
-#               [NAME_MAX n] [FILE_MAX n] [ATTR_MAX n] [DEPENDS target..] [ALL])
+#               [NAME_MAX n] [FILE_MAX n] [ATTR_MAX n] [INLINE_MAX n] [DEPENDS target..] [ALL])
 #
 # The target NAME packs the folder at each build, so that all is seen that was added, renamed or deleted in it, folders without
 # files and files of other targets too. OUTPUT is written where the image became another one, and only then: what depends on it is
@@ -45,7 +45,7 @@ endfunction()
 # Puts the options of `lfsed pack` into a variable.
 function(_lfsed_options name options)
   set(found)
-  foreach(word BLOCK COUNT SIZE NAME_MAX FILE_MAX ATTR_MAX)
+  foreach(word BLOCK COUNT SIZE NAME_MAX FILE_MAX ATTR_MAX INLINE_MAX)
     if(DEFINED IMAGE_${word})
       string(TOLOWER ${word} option)
       string(REPLACE _ - option ${option})
@@ -65,7 +65,7 @@ endfunction()
 
 # Makes a target of a folder: see above.
 function(lfsed_image name)
-  set(values FOLDER OUTPUT BLOCK COUNT SIZE CHANGES NAME_MAX FILE_MAX ATTR_MAX)
+  set(values FOLDER OUTPUT BLOCK COUNT SIZE CHANGES NAME_MAX FILE_MAX ATTR_MAX INLINE_MAX)
   cmake_parse_arguments(PARSE_ARGV 1 IMAGE "LEAST;ALL" "${values}" DEPENDS)
   _lfsed_judge(${name})
   _lfsed_options(${name} options)
@@ -79,7 +79,11 @@ function(lfsed_image name)
   set(commands COMMAND "${LFSED_PROGRAM}" pack ${options} -- "${made}" "${folder}")
   if(IMAGE_CHANGES)
     get_filename_component(changes "${IMAGE_CHANGES}" ABSOLUTE)
-    list(APPEND commands COMMAND "${LFSED_PROGRAM}" batch --block auto -- "${made}" "${changes}")
+    set(most)
+    if(DEFINED IMAGE_INLINE_MAX)
+      set(most --inline-max ${IMAGE_INLINE_MAX})
+    endif()
+    list(APPEND commands COMMAND "${LFSED_PROGRAM}" batch --block auto ${most} -- "${made}" "${changes}")
   endif()
   set(all)
   if(IMAGE_ALL)

@@ -64,7 +64,7 @@ returns-in_err-limits_of-in-pack-clause-unsaid c =
     handed_on on.result c.in_err-limits_of-in-pack.field-0.0 _ on.ensures.1
     (λ is names.
     let said = said_of c.args.name.now (codes "pack") (rows_of (found_of c.args.options.now)) c.in-pack.is names in
-    let limits = said.1.1.1.1.1.1 in
+    let limits = said.1.1.1.1.1.1.1 in
     absurd (c.in_err-limits_of-in-pack.ensures.unsaid.1 (limits.0 refl) (limits.1.0 refl) (limits.1.1.0 refl)))
 
 pub returns-in_err-text-in-pack-clause-unsaid : goal.returns-in_err-text-in-pack-clause-unsaid
@@ -78,7 +78,7 @@ returns-in_err-text-in-pack-clause-unsaid c =
 pub returns-in_ok-text-in-pack-clause-within : goal.returns-in_ok-text-in-pack-clause-within
 returns-in_ok-text-in-pack-clause-within c = λ names.
     let said = said_of c.args.name.now (codes "pack") (rows_of (found_of c.args.options.now)) c.in-pack.is names in
-    let limits = said.1.1.1.1.1.1 in
+    let limits = said.1.1.1.1.1.1.1 in
     c.in_ok-limits_of-in-pack.ensures.within (limits.0 refl) (limits.1.0 refl) (limits.1.1.0 refl)
 
 pub returns-in-repack-clause-some : goal.returns-in-repack-clause-some

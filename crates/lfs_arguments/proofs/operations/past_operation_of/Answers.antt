@@ -28,6 +28,7 @@ returns-in-batch-clause-some c = λ block. (
   c.in-batch.is,
   c.get_str.ensures ∙ first_value-rows (found_of c.args.options.now) (codes "script"),
   c.keep_of.ensures.kept,
+  c.most_of.ensures,
   search rules,
 )
 

@@ -33,5 +33,5 @@ returns-in_err-extent_if_said-clause-unsaid c =
 pub returns-clause-within : goal.returns-clause-within
 returns-clause-within c = λ names.
     let says = says_of (codes "repack") (codes "repack") (rows_of (found_of c.args.options.now)) refl names in
-    let limits = says.1.1.1.1.1.1.1 in
+    let limits = says.1.1.1.1.1.1.1.1 in
     c.limits_if_said.ensures.within limits.0 limits.1.0 limits.1.1.0

@@ -39,7 +39,7 @@ returns-in_err-path-in-Put-clause-refused c =
 pub returns-in_ok-path-in-Put-clause-spelled : goal.returns-in_ok-path-in-Put-clause-spelled
 returns-in_ok-path-in-Put-clause-spelled c =
     let spelled = c.in_ok-path-in-Put.ensures.spelled in
-    (one _ spelled.0, ap asked_for c.in-Put.is ∙ ap (λ (text : List ℕ). Put text c.in-Put.bytes.now) spelled.1)
+    (one _ spelled.0, ap asked_for c.in-Put.is ∙ ap (λ (text : List ℕ). Put text c.in-Put.bytes.now c.in-Put.most) spelled.1)
 
 pub returns-in_err-path-in-Rm-clause-refused : goal.returns-in_err-path-in-Rm-clause-refused
 returns-in_err-path-in-Rm-clause-refused c =

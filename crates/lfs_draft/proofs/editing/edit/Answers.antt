@@ -16,7 +16,7 @@ mkdir-requires c =
 
 pub put-requires : goal.put-requires
 put-requires c =
-    let with : Path → Command = λ p. Put p c.in-Put.bytes.now in
+    let with : Path → Command = λ p. Put p c.in-Put.bytes.now c.in-Put.most in
     subst (IsEditable c.args.outline.now)
     (ap named_command c.in-Put.is ∙ ap with (ap (map (λ (n : Bor Name). n.now)) (sym c.deref-in-Put.ensures.value)))
     c.requires

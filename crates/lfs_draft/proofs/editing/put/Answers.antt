@@ -14,5 +14,5 @@ put_file-requires-clause-named c = subst (λ (v : Volume). NamedOnce v.directori
 
 pub put_file-requires-clause-name : goal.put_file-requires-clause-name
 put_file-requires-clause-name c =
-    put_short c.args.outline.now (map (λ (x : Bor Name). x.now) c.args.path.now) c.args.bytes.now
+    put_short c.args.outline.now (map (λ (x : Bor Name). x.now) c.args.path.now) c.args.bytes.now c.args.most
     (c.parent-parent.result.pair, c.parent-parent.result.name.now) c.requires c.parent-parent.ensures.parent

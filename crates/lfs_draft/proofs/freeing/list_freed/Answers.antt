@@ -9,11 +9,11 @@ use Rattle.lfs_command.specs.declared.command.Command.TheVariants as case
 use Rattle.lfs_draft.proofs.freeing.list_freed.Goals as goal
 
 none_freed : (o : Volume) (command : OnNames) (b : ℕ)
-    → ((path : Vec (Bor Name)) (bytes : Bor (List ℕ)) → command ≡ case.Put path bytes → ⊥)
+    → ((path : Vec (Bor Name)) (bytes : Bor (List ℕ)) (most : ℕ) → command ≡ case.Put path bytes most → ⊥)
     → ((path : Vec (Bor Name)) → command ≡ case.Rm path → ⊥)
     → ((from to : Vec (Bor Name)) → command ≡ case.Mv from to → ⊥) → freed_uses o (named_command command) b ≡ 0
 none_freed o (case.Mkdir path) b put rm mv = refl
-none_freed o (case.Put path bytes) b put rm mv = absurd (put path bytes refl)
+none_freed o (case.Put path bytes most) b put rm mv = absurd (put path bytes most refl)
 none_freed o (case.Rm path) b put rm mv = absurd (rm path refl)
 none_freed o (case.Mv from to) b put rm mv = absurd (mv from to refl)
 none_freed o (case.SetAttr path kind value) b put rm mv = refl

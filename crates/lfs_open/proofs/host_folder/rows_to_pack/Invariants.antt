@@ -5,5 +5,5 @@ use Rattle.lfs_open.proofs.host_folder.rows_to_pack.Given as goal
 
 abbrev pub invariant-each : goal.invariant-each
 invariant-each l = record {
-  packed : IsPackedTo l.folder (drop l.row-index l.folder) l.rows.items;
+  packed : IsPackedTo l.most l.folder (drop l.row-index l.folder) l.rows.items;
 }

@@ -20,5 +20,5 @@ pub returns : goal.returns
 returns g c =
     let d : Disk = g.B.Blocks.disk c.args.disk.now in
     let m = c.args.mounted.now in
-    are_copies c.rows_are_of_their_texts.ensures d m (c.rows_pack_to_their_tree.ensures.packable d m c.requires) _ c.rows.ensures
+    are_copies c.rows_are_of_their_texts.ensures d m (λ most. c.rows_pack_to_their_tree.ensures.packable most d m c.requires) _ c.rows.ensures
     c.copied_rows.result c.copied_rows.ensures

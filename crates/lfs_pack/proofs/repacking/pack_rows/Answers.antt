@@ -10,12 +10,12 @@ each-preserved c =
     let copied = c.args.copied.now in
     let i = c.each.row-index in
     let more : c.push.new.self.items ≡ c.each.rows.items ++ c.pack_row.result ∷ [] = search rules in
-    let packed = packed_further copied (drop i copied) (drop (i + 1) copied) c.row-item.result c.each.rows.items c.pack_row.result
+    let packed = packed_further c.args.most copied (drop i copied) (drop (i + 1) copied) c.row-item.result c.each.rows.items c.pack_row.result
     c.pack_row.ensures (drop_at copied i c.row-item.result c.each-test.true c.row-item.is) c.each.invariant.packed in
-    record { packed = subst (ArePackedTo copied (drop (i + 1) copied)) (sym more) packed }
+    record { packed = subst (ArePackedTo c.args.most copied (drop (i + 1) copied)) (sym more) packed }
 
 pub returns : goal.returns
 returns c =
     let copied = c.args.copied.now in
-    all_packed copied (drop c.each.row-index copied) c.each.rows.items (drop_of_length-le copied (omega (arith, c.each-test.false)))
+    all_packed c.args.most copied (drop c.each.row-index copied) c.each.rows.items (drop_of_length-le copied (omega (arith, c.each-test.false)))
     c.each.invariant.packed

@@ -5,5 +5,5 @@ use Rattle.lfs_pack.proofs.repacking.pack_rows.Given as goal
 
 abbrev pub invariant-each : goal.invariant-each
 invariant-each l = record {
-  packed : ArePackedTo l.copied (drop l.row-index l.copied) l.rows.items;
+  packed : ArePackedTo l.most l.copied (drop l.row-index l.copied) l.rows.items;
 }

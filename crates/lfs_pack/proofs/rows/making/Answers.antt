@@ -7,10 +7,10 @@ use Rattle.lfs_command.specs.AskedFor.{making_said, named_command}
 use Rattle.lfs_pack.specs.Packed.{made_by}
 use Rattle.lfs_pack.proofs.rows.making.Goals as goal
 
-named_making : (path : Vec (Bor Name)) (bytes : Option (Bor (List ℕ))) → named_command (making_said path bytes)
-    ≡ made_by (map (λ (n : Bor Name). n.now) path.items) (option_map (λ (b : Bor (List ℕ)). b.now) bytes)
-named_making path None = refl
-named_making path (Some bytes) = refl
+named_making : (path : Vec (Bor Name)) (bytes : Option (Bor (List ℕ))) (most : ℕ) → named_command (making_said path bytes most)
+    ≡ made_by (map (λ (n : Bor Name). n.now) path.items) (option_map (λ (b : Bor (List ℕ)). b.now) bytes) most
+named_making path None most = refl
+named_making path (Some bytes) most = refl
 
 pub returns : goal.returns
-returns c = ap named_command c.making.ensures ∙ named_making c.args.path c.args.bytes
+returns c = ap named_command c.making.ensures ∙ named_making c.args.path c.args.bytes c.args.most

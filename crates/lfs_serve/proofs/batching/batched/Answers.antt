@@ -24,5 +24,5 @@ returns-clause-ended g c =
     let kept : KeepsScene old mid = (c.script_text.ensures.kept.0, c.script_text.ensures.kept.1) in
     let same : text ≡ c.in_ok-text.text.items = c.deref.ensures.value in
     let reads = subst (ReadsScript c.args.file old) (sym same) c.in_ok-text.ensures.text in
-    script_ends c.args.file text c.args.keep c.args.one request.takes_older request.size request.image.now old mid new (stopped_by c.lined.result)
+    script_ends c.args.file text c.args.terms c.args.one request.takes_older request.size request.image.now old mid new (stopped_by c.lined.result)
     (stopped_by c.text_batched-end.result) c.lined.ensures reads kept c.text_batched-end.ensures.ended

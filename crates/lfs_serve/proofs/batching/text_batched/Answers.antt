@@ -7,7 +7,7 @@ use Rattle.lfs_host.specs.Scene.{Scene}
 use Rattle.lfs_report.specs.RefusedLine.{fault_of_line}
 use Rattle.lfs_texts.specs.Script.{SaysLine, asking_lines}
 use Rattle.lfs_texts.specs.declared.script_line.ScriptLine.{ScriptLine}
-use Rattle.lfs_serve.specs.Batching.{BecomesOf, IsRefusedLine, LinesKeep, MayBeOne, SaysNoSteps, TakesText}
+use Rattle.lfs_serve.specs.Batching.{BecomesOf, IsRefusedLine, AreOnTerms, MayBeOne, SaysNoSteps, TakesText}
 use Rattle.lfs_report.specs.Stop.{stopped_by}
 use Rattle.lfs_serve.proofs.BatchingLemmas.{ends_by, lines_in_range}
 use Rattle.lfs_serve.proofs.batching.text_batched.Goals as goal
@@ -16,7 +16,7 @@ pub lines_batched-requires-clause-range : goal.lines_batched-requires-clause-ran
 lines_batched-requires-clause-range g c =
     let lines : List ScriptLine = c.deref.result.now in
     let same : lines ≡ c.in-Ok.lines.items = c.deref.ensures.value in
-    lines_in_range c.args.keep lines c.requires (subst (LinesKeep c.args.keep) (sym same) c.in-Ok.ensures.keep)
+    lines_in_range c.args.terms lines c.requires (subst (AreOnTerms c.args.terms) (sym same) c.in-Ok.ensures.terms)
 
 pub returns-in-Ok-clause-ended : goal.returns-in-Ok-clause-ended
 returns-in-Ok-clause-ended g c =
@@ -28,10 +28,10 @@ returns-in-Ok-clause-ended g c =
     let same : lines ≡ c.in-Ok.lines.items = c.deref.ensures.value in
     let asked = subst (λ (t : List ℕ). AllZip SaysLine (asking_lines t) c.in-Ok.lines.items) c.script_of-script.ensures c.in-Ok.ensures.lines in
     let says = subst (λ (ls : List ScriptLine). AllZip SaysLine (asking_lines text) ls) (sym same) asked in
-    let keeps = subst (LinesKeep c.args.keep) (sym same) c.in-Ok.ensures.keep in
+    let keeps = subst (AreOnTerms c.args.terms) (sym same) c.in-Ok.ensures.terms in
     let may = subst (MayBeOne c.args.one) (sym same) c.in-Ok.ensures.one in
     let fault = stopped_by c.lines_batched.result in
-    ends_by (BecomesOf old.files lines c.args.one c.args.keep) (TakesText old.files c.args.keep c.args.one text) (IsUnread new)
+    ends_by (BecomesOf old.files lines c.args.one c.args.terms.keep) (TakesText old.files c.args.terms c.args.one text) (IsUnread new)
     (λ (why : Fault). IsUnread new why ⊎ SaysNoSteps c.args.one text why) request.takes_older request.size request.image.now old new fault
     fault refl (λ moves becomes. (lines, says, keeps, may, becomes)) (λ why unread. inl unread) c.lines_batched.ensures.ended
 

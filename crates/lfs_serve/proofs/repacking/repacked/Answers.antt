@@ -70,9 +70,9 @@ returns-clause-ended g c =
     let rows = c.as_slice-rows.result.now in
     let first = c.taken_up.ensures.kept.0 in
     let then = c.open_source.ensures.kept.0 in
-    let texts : map pack_text rows ≡ map source_text o.rows.items =
-    ap (map pack_text) c.as_slice-rows.ensures.value ∙ c.in_ok-rows.ensures ∙ ap (map source_text) c.deref.ensures.value in
-    let packed = packs source c.args.extent c.args.limits request.size old.files c.in_ok-count.count c.or-limits.result rows o
+    let texts : map pack_text rows ≡ map (source_text c.args.most) o.rows.items =
+    ap (map pack_text) c.as_slice-rows.ensures.value ∙ c.in_ok-rows.ensures ∙ ap (map (source_text c.args.most)) c.deref.ensures.value in
+    let packed = packs source c.args.extent c.args.limits c.args.most request.size old.files c.in_ok-count.count c.or-limits.result rows o
     (opened_from source by_taken.files old.files o first.0 c.in_ok-opened.ensures.opened) texts c.or-limits.ensures.limits c.in_ok-count.ensures in
     let step = Pack c.in_ok-count.count c.or-limits.result c.as_slice-rows.result in
     let ends = step_at step (as_it_is request.takes_older) request.size request.image.now mid old new (stopped_by c.told.result)

@@ -9,11 +9,14 @@ use Rattle.lfs_open.proofs.StopLemmas.{stopped_at}
 use Rattle.lfs_serve.proofs.StepLemmas.{step_from}
 use Rattle.lfs_serve.proofs.tree_operations.change_taken.Goals as goal
 
-pub stepped-requires-clause-kind : goal.stepped-requires-clause-kind
-stepped-requires-clause-kind g c = c.in_ok-handed.ensures.kind
+pub change_of_handed-requires-clause-kind : goal.change_of_handed-requires-clause-kind
+change_of_handed-requires-clause-kind g c = c.in_ok-handed.ensures.kind
 
-pub stepped-requires-clause-range : goal.stepped-requires-clause-range
-stepped-requires-clause-range g c = (c.requires.keep, c.requires.range)
+pub change_of_handed-requires-clause-range : goal.change_of_handed-requires-clause-range
+change_of_handed-requires-clause-range g c = c.requires.range
+
+pub change_of_handed-requires-clause-keep : goal.change_of_handed-requires-clause-keep
+change_of_handed-requires-clause-keep g c = c.requires.keep
 
 pub returns-in_err-handed-clause-ended : goal.returns-in_err-handed-clause-ended
 returns-in_err-handed-clause-ended g c =
@@ -26,10 +29,10 @@ pub returns-clause-ended : goal.returns-clause-ended
 returns-clause-ended g c =
     let old : Scene = g.H.Known.known c.args.host.now in
     let mid : Scene = g.H.Known.known c.taken_up.new.host in
-    let new : Scene = g.H.Known.known c.stepped.new.host in
+    let new : Scene = g.H.Known.known c.change_of_handed.new.host in
     let request = c.args.request.now in
     let kept = c.taken_up.ensures.kept.0 in
     inl (
     step_from (Tree c.args.change c.args.keep) (as_it_is false) request.size request.image.now mid old new
-    (stopped_by c.stepped.result) kept.0 kept.2 c.stepped.ensures.ended
+    (stopped_by c.change_of_handed.result) kept.0 kept.2 c.change_of_handed.ensures.ended
     )

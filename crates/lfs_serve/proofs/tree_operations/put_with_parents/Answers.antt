@@ -12,28 +12,28 @@ use Rattle.lfs_open.proofs.StopLemmas.{stopped_at}
 use Rattle.lfs_serve.proofs.StepLemmas.{step_from, claimed_at, handed_from, target_from}
 use Rattle.lfs_serve.proofs.tree_operations.put_with_parents.Goals as goal
 
-pub put_taken-requires-clause-kind : goal.put_taken-requires-clause-kind
-put_taken-requires-clause-kind g c = c.in_ok-handed.ensures.kind
+pub change_of_handed-requires-clause-kind : goal.change_of_handed-requires-clause-kind
+change_of_handed-requires-clause-kind g c = c.in_ok-handed.ensures.kind
 
-pub put_taken-requires-clause-keep : goal.put_taken-requires-clause-keep
-put_taken-requires-clause-keep g c = c.requires
+pub change_of_handed-requires-clause-keep : goal.change_of_handed-requires-clause-keep
+change_of_handed-requires-clause-keep g c = c.requires
 
-pub put_taken-requires-clause-target : goal.put_taken-requires-clause-target
-put_taken-requires-clause-target g c =
+pub change_of_handed-requires-clause-target : goal.change_of_handed-requires-clause-target
+change_of_handed-requires-clause-target g c =
     let mid : Scene = g.H.Known.known c.taken_up.new.host in
     let new : Scene = g.H.Known.known c.source_read.new.host in
     target_from c.args.request.now.image.now (string_bytes c.in_ok-handed.handed.target) mid.files new.files
     (sym c.source_read.ensures.kept.0) c.in_ok-handed.ensures.target
 
-pub put_taken-requires-clause-claimed : goal.put_taken-requires-clause-claimed
-put_taken-requires-clause-claimed g c =
+pub change_of_handed-requires-clause-claimed : goal.change_of_handed-requires-clause-claimed
+change_of_handed-requires-clause-claimed g c =
     let mid : Scene = g.H.Known.known c.taken_up.new.host in
     let new : Scene = g.H.Known.known c.source_read.new.host in
     let at = string_bytes c.in_ok-handed.handed.target in
     claimed_at c.in_ok-handed.handed.kind mid new at at refl c.source_read.ensures.kept.2.1 c.in_ok-handed.ensures.claimed
 
-pub put_taken-requires-clause-handed : goal.put_taken-requires-clause-handed
-put_taken-requires-clause-handed g c =
+pub change_of_handed-requires-clause-handed : goal.change_of_handed-requires-clause-handed
+change_of_handed-requires-clause-handed g c =
     let handed = c.in_ok-handed.handed in
     let mid : Scene = g.H.Known.known c.taken_up.new.host in
     let new : Scene = g.H.Known.known c.source_read.new.host in
@@ -64,7 +64,7 @@ returns-clause-ended g c =
     let old : Scene = g.H.Known.known c.args.host.now in
     let by_taken : Scene = g.H.Known.known c.taken_up.new.host in
     let mid : Scene = g.H.Known.known c.source_read.new.host in
-    let new : Scene = g.H.Known.known c.put_taken.new.host in
+    let new : Scene = g.H.Known.known c.change_of_handed.new.host in
     let request = c.args.request.now in
     let source = c.args.source.now in
     let first = c.taken_up.ensures.kept.0 in
@@ -77,9 +77,9 @@ returns-clause-ended g c =
     (subst (λ (bytes : List ℕ). HandsSource source by_taken.files by_taken.typed bytes) (sym read_is) c.in_ok-read.ensures.input)) in
     inl (
       Tree _ c.args.keep,
-      ((refl, (read, reads, c.contents_of-bytes.ensures)), refl),
-      step_from (Tree _ c.args.keep) (as_it_is false) request.size request.image.now mid old new (stopped_by c.put_taken.result)
-          (then.0 ∙ first.0) (then.1 ∙ first.2) c.put_taken.ensures.ended,
+      ((refl, refl, (read, reads, c.contents_of-bytes.ensures)), refl),
+      step_from (Tree _ c.args.keep) (as_it_is false) request.size request.image.now mid old new (stopped_by c.change_of_handed.result)
+          (then.0 ∙ first.0) (then.1 ∙ first.2) c.change_of_handed.ensures.ended,
     )
 
 pub returns-in_err-handed-clause-rest : goal.returns-in_err-handed-clause-rest
@@ -97,4 +97,4 @@ pub returns-clause-rest : goal.returns-clause-rest
 returns-clause-rest g c =
     let first = c.taken_up.ensures.kept in
     let then = c.source_read.ensures in
-    ((λ none. c.put_taken.ensures.typed ∙ then.unread none ∙ first.0.1), (λ _. c.put_taken.ensures.made ∙ then.kept.2.0 ∙ first.2))
+    ((λ none. c.change_of_handed.ensures.typed ∙ then.unread none ∙ first.0.1), (λ _. c.change_of_handed.ensures.made ∙ then.kept.2.0 ∙ first.2))

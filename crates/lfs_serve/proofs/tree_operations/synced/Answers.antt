@@ -70,11 +70,11 @@ returns-clause-ended g c =
     let folded = subst (λ (rs : List SyncRow). SyncsFolder old.tree dir rs) (sym rows_is)
     (folded_by old.tree dir folder c.in_ok-rows.rows.items read c.in_ok-rows.ensures) in
     let kept = c.folder_of.ensures.kept in
-    let change = Sync c.args.path c.as_slice.result in
+    let change = Sync c.args.path c.as_slice.result c.args.most in
     elim c.change_taken.ensures.ended [
       | inl ends ↦ inl (
         Tree change c.args.keep,
-        ((refl, folded), refl),
+        ((refl, refl, folded), refl),
         step_from (Tree change c.args.keep) (as_it_is false) request.size request.image.now mid old new
             (stopped_by c.change_taken.result) kept.0.0 kept.0.2 ends,
       )

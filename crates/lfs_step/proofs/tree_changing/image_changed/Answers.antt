@@ -6,8 +6,7 @@ use Rattle.lfs_history.specs.Taking.{Together}
 use Rattle.lfs_request.specs.declared.fault.Fault.{Fault}
 use Rattle.lfs_step.specs.declared.step.Step.TheVariants.{Tree}
 use Rattle.lfs_step.specs.Outcome.{given}
-use Rattle.lfs_step.specs.TreeChanging.{IsAsked, rows_in}
-use Rattle.lfs_sync.specs.Planned.{plan_asked}
+use Rattle.lfs_step.specs.TreeChanging.{IsAsked, asked_by}
 use Rattle.lfs_step.proofs.OutcomeLemmas.{AnswersBy}
 use Rattle.lfs_step.proofs.TreeLemmas.{commands_answer, none_answer, refused_bytes, told}
 use Rattle.lfs_step.proofs.tree_changing.image_changed.Goals as goal
@@ -25,14 +24,14 @@ returns-in-Ok-clause-answers c =
     let o = c.plan_changed-outcome.result in
     let p = c.with_command.result in
     let plan = c.in-Ok.plan.items in
-    let asked = plan_asked (rows_in change) plan in
+    let asked = asked_by change plan in
     let journal = c.args.journal.items in
     let is = at_bytes d d.size d.bytes (λ x. IsAsked change x asked) c.requires.disk refl refl c.in-Ok.ensures.planned in
-    let sized = subst (λ (n : ℕ). AnswersChange o.fault (Together (plan_asked (rows_in change) c.deref.result.now) keep ∷ []) n c.into_bytes-image.result.items journal o)
+    let sized = subst (λ (n : ℕ). AnswersChange o.fault (Together (asked_by change c.deref.result.now) keep ∷ []) n c.into_bytes-image.result.items journal o)
     c.size-size.ensures.value c.plan_changed-outcome.ensures.answers in
-    let bytes = subst (λ (b : List ℕ). AnswersChange o.fault (Together (plan_asked (rows_in change) c.deref.result.now) keep ∷ []) d.size b journal o)
+    let bytes = subst (λ (b : List ℕ). AnswersChange o.fault (Together (asked_by change c.deref.result.now) keep ∷ []) d.size b journal o)
     c.into_bytes-image.ensures sized in
-    let planned = subst (λ (l : List _). AnswersChange o.fault (Together (plan_asked (rows_in change) l) keep ∷ []) d.size d.bytes journal o) c.deref.ensures.value bytes in
+    let planned = subst (λ (l : List _). AnswersChange o.fault (Together (asked_by change l) keep ∷ []) d.size d.bytes journal o) c.deref.ensures.value bytes in
     let telling = told o.fault (Together asked keep ∷ []) d.size d.bytes journal o p (ap (λ v. v.items) c.with_command.ensures.kept.0)
     c.with_command.ensures.kept.1 c.with_command.ensures.at planned in
     subst (λ (f : Option Fault). AnswersBy f (Tree change keep) (given d.size d.bytes journal) p) (sym c.with_command.ensures.fault)

@@ -2,6 +2,7 @@ use Rattle.std.proofs.Common.{ap, ◌∙◌, [], List, Bor, ◌++◌, ◌∷◌}
 use Rattle.std.specs.Option.{unwrap_or}
 use Rattle.std.proofs.lemmas.Result.{IfOk-weaker}
 use Rattle.lfs_meta.specs.Name.{Name}
+use Rattle.lfs_fs.specs.Limits.{most_held}
 use Rattle.lfs_fs.specs.Path.{path_text}
 use Rattle.lfs_fs.specs.Tree.{tree}
 use Rattle.lfs_command.specs.Command.{Put}
@@ -19,5 +20,5 @@ returns c =
     IfOk-weaker c.with_parents.result _ _
     (λ plan planned d is rows. put_some d c.args.mounted.now is rows c.args.at.now (names ns) spelled (plan_asked rows plan.items)
     (planned rows ∙ ap (λ (l : List (Bor Name)). in_texts (lacking (tree c.args.mounted.now.outline) [] (names l))
-    ++ Put (path_text (names l)) (unwrap_or (bytes_at rows 0) []) ∷ []) c.deref.ensures.value))
+    ++ Put (path_text (names l)) (unwrap_or (bytes_at rows 0) []) most_held ∷ []) c.deref.ensures.value))
     c.with_parents.ensures

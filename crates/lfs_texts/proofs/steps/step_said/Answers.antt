@@ -23,6 +23,3 @@ returns-in_err-command-in-len4-clause-refused c =
     ∙ ap (λ (text : List ℕ). verb.items ∷ first.items ∷ second.items ∷ text ∷ []) c.deref-in-len4-4.ensures.value
     ∙ ap (map (λ w. w.items)) (sym all) in
     rw (p.1, p.2) (subst (λ (words : List (List ℕ)). IsFault words fault) texts c.in_err-command-in-len4.ensures.refused)
-
-pub returns-clause-keep : goal.returns-clause-keep
-returns-clause-keep c = refl
