@@ -62,7 +62,7 @@ _lfsed() {
       words='IMAGE DIR'
       ;;
     check)
-      options='-b --block --json --device --offset --older -h --help'
+      options='-b --block --inline-max --json --device --offset --older -h --help'
       words='IMAGE'
       ;;
     ls)

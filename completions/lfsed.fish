@@ -119,6 +119,7 @@ complete -c lfsed -n '__fish_seen_subcommand_from salvage' -l older -d 'Go on wi
 complete -c lfsed -n '__fish_seen_subcommand_from salvage' -s h -l help -d 'Print help'
 complete -c lfsed -n '__lfsed_at check 0' -F
 complete -c lfsed -n '__fish_seen_subcommand_from check' -s b -l block -x -d 'Size of a block, a multiple of 16 from 256 to 65536, or auto [default: 4096]'
+complete -c lfsed -n '__fish_seen_subcommand_from check' -l inline-max -x -d 'List the files that stand in their entries and are longer than this, in bytes; status 1 if there are some'
 complete -c lfsed -n '__fish_seen_subcommand_from check' -l json -d 'Print an object of JSON a line'
 complete -c lfsed -n '__fish_seen_subcommand_from check' -l device -d 'Read the image as a device does: also disk version 2.1, and a superblock that was expanded'
 complete -c lfsed -n '__fish_seen_subcommand_from check' -l offset -x -d 'Place in the file at which the image begins: 1114112, 0x110000, 1088k or 1M'

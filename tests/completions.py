@@ -46,6 +46,8 @@ LINES = [
     ("lfsed pack fw.img fol", ["pack", "fw.img", "folder/"]),
     ("lfsed repack --device --from-block 512 fw.img oth", ["repack", "--device", "--from-block", "512", "fw.img", "other.img"]),
     ("lfsed check --dev", ["check", "--device"]),
+    ("lfsed check --inl", ["check", "--inline-max"]),
+    ("lfsed check --inline-max 64 oth", ["check", "--inline-max", "64", "other.img"]),
     ("lfsed blocks --su", ["blocks", "--sum"]),
     ("lfsed blo", ["blocks"]),
     ("lfsed check --off", ["check", "--offset"]),

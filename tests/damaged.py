@@ -54,11 +54,13 @@ LINE = f"lfsed: a.img: /www: blocks 2 and 3: {OLDER}"
 
 
 def is_told(folder, what, data, option, is_older):
-    """Compares what each command tells with whether an older state of /www is read."""
+    """Compares what each command tells with whether an older state of /www is read, also if `check` ends with 1."""
     wanted = [LINE] if is_older else []
     for command in "check", "ls", "blocks":
         told = told_of(folder, data, f"{command} -b {SIZE}{option} a.img")
         folder.check(f"{what}: {command}", told == wanted, told)
+    status, told, _ = folder.run(f"check -b {SIZE}{option} --inline-max 0 a.img")
+    folder.check(f"{what}: check --inline-max", (status, told.splitlines()) == (1, wanted), (status, told))
 
 
 def each_bit_of_the_last_commit(folder):

@@ -422,7 +422,9 @@ def is_read(folder, name, row, reader, device):
         f"extract {words} a.img made": b"",
     }
     ended = folder.run(f"check --json {words} a.img")
-    folder.check(f"{name}: check --json", ended[0] == 0 and json.loads(ended[2])["version"] == reader.version(), ended)
+    record = json.loads(ended[2] or b"{}")
+    is_right = (record.get("version"), record.get("inline_longest")) == (reader.version(), reader.longest())
+    folder.check(f"{name}: check --json", ended[0] == 0 and is_right, ended)
     for line, wanted in printed.items():
         ended, status = folder.run(line), int(line.startswith("diff ") and wanted != b"")
         folder.check(f"{name}: {line}", ended == (status, reported(name, device, line), wanted), ended)

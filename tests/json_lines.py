@@ -48,6 +48,7 @@ def summary_of(reader):
     return line_of(
         block=reader.size, count=len(reader.image) // reader.size, free=free, free_bytes=free * reader.size,
         directories=len(tree) - files, files=files, version="2.0", name_max=name, file_max=most, attr_max=attr,
+        inline_longest=reader.longest(),
     )
 
 
@@ -123,7 +124,7 @@ def worked_lines(folder):
          '{"kind":"directory","path":"/a","attributes":[{"kind":116,"value":"0102"}]}\n{"kind":"file","size":5,"path":"/a/x"}\n'),
         ("ls -b 512 --json a.img /a/x", 0, 0, "", '{"kind":"file","size":5,"path":"/a/x"}\n'),
         ("check --json -b 512 a.img", 0, 0, "", '{"block":512,"count":8,"free":4,"free_bytes":2048,"directories":2,"files":1,'
-         '"version":"2.0","name_max":40,"file_max":2147483647,"attr_max":1022}\n'),
+         '"version":"2.0","name_max":40,"file_max":2147483647,"attr_max":1022,"inline_longest":5}\n'),
         ("blocks --json -b 512 a.img", 0, 0, "", '{"kind":"directory","path":"/","first":0,"last":1}\n'
          '{"kind":"directory","path":"/a","first":2,"last":3}\n{"kind":"free","first":4,"last":7}\n'),
         ("blocks --json --sum -b 512 a.img", 0, 0, "", '{"kind":"directory","path":"/","blocks":4}\n'

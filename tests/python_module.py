@@ -248,6 +248,7 @@ def bounds(counts):
         pathlib.Path("held/c").write_bytes(b"hello")
         image.sync("held", "/d")
         counts.check(f"inline_max {most}", free - image.check().free == 3 * taken + 2, image.check())
+        counts.check(f"inline_max {most}: the longest", image.check().inline_longest == 5 * (1 - taken), image.check())
         packed = lfsed.pack("j.img", "held", block=512, count=64, inline_max=most)
         counts.check(f"pack, inline_max {most}", (62 - packed.check().free, packed.inline_max) == (taken, most), packed.check())
         again = lfsed.repack("k.img", lfsed.pack("l.img", "held", block=512, count=64), block=512, inline_max=most)

@@ -262,13 +262,17 @@ def comparing_rows(runs):
 
 
 def told_rows(runs):
-    """What is printed as JSON, and digests."""
+    """What is printed as JSON, digests, and files that stand in their entries."""
     new = runs.row(["format", "--count=16", "a.img"], NOTHING)
     made = runs.row(["put", "-p", "a.img", "/a/x"], new, bytes(700))
     made = runs.row(["setattr", "a.img", "/a", "74", "0102"], made)
     for command in ["check"], ["ls"], ["ls", "--sha256"], ["blocks"], ["blocks", "--sum"], ["log"]:
         runs.row([*command, "--json", "a.img"], made)
     runs.row(["ls", "--sha256", "a.img"], made)
+    made = runs.row(["put", "a.img", "/a/y"], made, bytes(9))
+    for most in "8", "9":
+        runs.row(["check", "--inline-max", most, "a.img"], made)
+    runs.row(["check", "--json", "--inline-max", "8", "a.img"], made)
 
 
 def growing_rows(runs):

@@ -69,7 +69,13 @@ class Image:
         self._past(command, *words, given=given, keep=self.keep, **more)
 
     def check(self) -> Summary:
-        """Judges the image, and answers what it has; raises ImageFault where it doesn't mount."""
+        """Judges the image, and answers what it has; raises ImageFault where it doesn't mount.
+
+        >>> image = format("h.img", block=512, count=16)
+        >>> image.write("/a", b"hello")
+        >>> image.check().inline_longest
+        5
+        """
         return _texts.summary(self._ask("check"))
 
     def rows(self, path: ImagePath = "/", *, digests: bool = False) -> List[Row]:

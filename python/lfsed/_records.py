@@ -17,7 +17,8 @@ class Limits:
 @dataclass(frozen=True)
 class Summary:
     """The size of an image's blocks, how many it has and how many of them are free; how many directories and files it holds; how many
-    bytes are free; the disk version that it is read as, and its limits."""
+    bytes are free; the disk version that it is read as, and its limits. `inline_longest` is the length in bytes of the longest file that
+    stands in its directory entry, 0 where none does: a device with a cache of that length changes each file in place."""
 
     block: int
     count: int
@@ -27,6 +28,7 @@ class Summary:
     free_bytes: int
     version: str
     limits: Limits
+    inline_longest: int
 
 
 @dataclass(frozen=True)

@@ -75,6 +75,7 @@ def summary(printed: bytes) -> Summary:
     said = objects(printed)[0]
     return Summary(
         said["block"], said["count"], said["free"], said["directories"], said["files"], said["free_bytes"], said["version"], limits(said),
+        said["inline_longest"],
     )
 
 

@@ -37,6 +37,12 @@ def said(reader):
     return f"block {reader.size}, count {count}, {counts}\n".encode()
 
 
+def longer(reader, most):
+    """The lines of the files that stand in their entries and are longer than this, as `check --inline-max` prints them."""
+    lengths = reader.in_entries()
+    return "".join(f"{shown(path)}\n" for path in sorted(lengths, key=in_order) if lengths[path] > most).encode()
+
+
 def marked(mark, path, row):
     """The lines of a path's bytes and attributes with a mark in front of each."""
     held, attributes = row
