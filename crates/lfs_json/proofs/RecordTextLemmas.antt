@@ -142,7 +142,10 @@ summaries_have_texts s h =
                                         integer_text s.limits.file (few s.limits.file h.file),
                                         (
                                           IsUtf8-are_ascii _ refl,
-                                          (integer_text s.limits.attribute (few s.limits.attribute h.attribute), tt),
+                                          (
+                                            integer_text s.limits.attribute (few s.limits.attribute h.attribute),
+                                            (IsUtf8-are_ascii _ refl, (integer_text s.inline_longest h.inline, tt)),
+                                          ),
                                         ),
                                       ),
                                     ),

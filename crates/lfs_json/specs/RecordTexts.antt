@@ -50,6 +50,7 @@ pub record HasCounts (s : Summary) : Type 0 where
   pub name : s.limits.name < 2 ^ 32
   pub file : s.limits.file < 2 ^ 32
   pub attribute : s.limits.attribute < 2 ^ 32
+  pub inline : s.inline_longest < 2 ^ 64
 
 -- the law: so does that of an image in numbers
 abbrev pub SummariesHaveTexts : Type 0

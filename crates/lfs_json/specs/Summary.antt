@@ -23,10 +23,17 @@ abbrev pub limit_members : Limits → List Member
 limit_members limits =
     (codes "name_max", integer limits.name) ∷ (codes "file_max", integer limits.file) ∷ (codes "attr_max", integer limits.attribute) ∷ []
 
+-- the longest file that stands in its entry
+abbrev pub inline_member : Summary → Member
+inline_member s = (codes "inline_longest", integer s.inline_longest)
+
+-- its disk version, its limits, and that file
+abbrev pub last_members : Summary → List Member
+last_members s = (codes "version", string (version_word s.version)) ∷ (limit_members s.limits ++ inline_member s ∷ [])
+
 -- the object of all
 abbrev pub json_of_summary : Summary → Json
-json_of_summary s =
-    object_of (block_members s ++ (tree_members s ++ ((codes "version", string (version_word s.version)) ∷ limit_members s.limits)))
+json_of_summary s = object_of (block_members s ++ (tree_members s ++ last_members s))
 
 -- the object of an image's limits, where another one has others
 abbrev pub json_of_limits : Limits → Json

@@ -5,7 +5,8 @@ ghost use Rattle.json.specs.Json.{string};
 ghost use Rattle.lfs_json.specs.Line.{line_of};
 ghost use Rattle.lfs_json.specs.Object.{integer};
 ghost use Rattle.lfs_json.specs.Written.{Adds, member_tokens, members_tokens};
-ghost use Rattle.lfs_json.specs.Summary.{block_members, json_of_limits, json_of_summary, limit_members, tree_members, version_word};
+ghost use Rattle.lfs_json.specs.Summary.{block_members, inline_member, limit_members, tree_members, version_word};
+ghost use Rattle.lfs_json.specs.Summary.{json_of_limits, json_of_summary};
 
 use crate::line::{begin_line, end_line};
 use crate::members::{add_number, add_text};
@@ -30,6 +31,8 @@ pub struct Summary {
     pub version: u32,
     /// Its limits.
     pub limits: Limits,
+    /// The length of the longest file that stands in its entry, in bytes; 0 where none does.
+    pub inline_longest: usize,
 }
 
 /// Adds a number of four bytes under a name.
@@ -92,8 +95,15 @@ fn add_limits(line: &mut Writer, limits: Limits) -> Result<(), AllocError>
     Ok(())
 }
 
+/// Adds the length of the longest file that stands in its entry.
+fn add_inline(line: &mut Writer, summary: &Summary) -> Result<(), AllocError>
+    ensures { OnOk result (Adds line.old line.new (member_tokens (inline_member summary.now))) }
+{
+    add_number(line, "inline_longest", summary.inline_longest as u64)
+}
+
 /// Adds the line of an image in numbers: an object with `block`, `count`, `free`, `free_bytes`, `directories`, `files`, `version`,
-/// `name_max`, `file_max` and `attr_max`.
+/// `name_max`, `file_max`, `attr_max` and `inline_longest`.
 pub fn append_json_summary(
     alloc: Global,
     text: &mut Vec<u8>,
@@ -106,6 +116,7 @@ pub fn append_json_summary(
     add_tree(&mut line, summary)?;
     add_version(alloc, &mut line, summary.version)?;
     add_limits(&mut line, summary.limits)?;
+    add_inline(&mut line, summary)?;
     end_line(text, line)?;
     Ok(())
 }
