@@ -11,6 +11,7 @@ pub mod DirectoryLemmas
 pub mod PartLemmas
 pub mod FlatLemmas
 pub mod GatheringLemmas
+pub mod InlinedLemmas
 pub mod KeptLemmas
 mod ListingRows
 pub mod MergeLemmas

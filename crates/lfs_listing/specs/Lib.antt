@@ -9,6 +9,7 @@ pub mod Difference
 pub mod Digests
 pub mod DirectoryNumbers
 pub mod Forms
+pub mod Inlined
 pub mod Listing
 pub mod Order
 pub mod Runs

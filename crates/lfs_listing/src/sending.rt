@@ -18,8 +18,8 @@ use std::alloc::Global;
 /// at the right of ten places, or `-` for a directory, and its path, in which `\x` and two digits stand for each byte that isn't printable
 /// ASCII or is a backslash; then for each of its attributes a line with `@`, the kind and the value in hexadecimal digits. In JSON it is a
 /// line as `append_json_row` adds it.
-/// `CannotWrite` where the sink fails, and a beginning went out, not all; `Memory` says only that a growth was refused, and a beginning went out, perhaps
-/// all. At most 64 KiB of the text and the lines of one row wait at a time.
+/// `CannotWrite` where the sink fails, and a beginning went out, not all; `Memory` says only that a growth was refused, and a beginning
+/// went out, perhaps all. At most 64 KiB of the text and the lines of one row wait at a time.
 pub fn send_listing<S: Sink>(
     alloc: Global,
     form: Form,
@@ -28,7 +28,8 @@ pub fn send_listing<S: Sink>(
     out: &mut S,
 ) -> Result<(), Unsent>
     requires { S.failed out.old ≡ false }
-    ensures sent { SendsListing (result_err result) (S.sent out.old) (S.sent out.new) (listing_at form (names at.now) (rows_listed rows.entry)) }
+    ensures sent { SendsListing (result_err result) (S.sent out.old) (S.sent out.new)
+        (listing_at form (names at.now) (rows_listed rows.entry)) }
     ensures failed { S.failed out.new ≡ blames_sink (result_err result) }
     ensures kept { S.kept out.new ≡ S.kept out.old }
 {
