@@ -43,7 +43,7 @@ pub enum Fault {
     BadLine,
     /// The image that another is compared with is refused.
     Other(OtherFault),
-    /// Two images that are compared differ, of which nothing is told but what differs.
+    /// Two images that are compared differ, or files that stand in their entries are longer than was asked; nothing else is told of it.
     Differ,
 }
 
@@ -76,8 +76,8 @@ impl Fault {
         }
     }
 
-    /// The status that the program ends with: 1 where a command was refused, or two images differ, 2 for the command line, 3 where an image
-    /// or a journal was refused, 4 for want of memory and for what the host refused.
+    /// The status that the program ends with: 1 where a command was refused, two images differ, or a file in its entry is longer than asked,
+    /// 2 for the command line, 3 where an image or a journal was refused, 4 for want of memory and for what the host refused.
     pub fn status(self) -> u8
         ensures { result ≡ status_of_number (fault_number self) }
     {

@@ -7,6 +7,8 @@ pub enum Query<'a, O> {
     Check {
         /// The disk version that is told of it, with its major number in the upper half; once the image is read, that which it states.
         version: u32,
+        /// The most bytes that a file may have that stands in its entry, if it is asked whether one has more.
+        most: Option<u32>,
     },
     /// What stands at a path, and at each one below it.
     Ls {
