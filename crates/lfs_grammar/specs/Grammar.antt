@@ -78,7 +78,7 @@ file_max_or_source = number (codes "file-max") 1 2147483647
 abbrev pub attr_max_or_source : Rule
 attr_max_or_source = number (codes "attr-max") 1 1022
 
--- how long a file may be that stands in its entry: `--inline-max`, a whole number, which needn't be said
+-- how long a file may be that stands in its entry, or is where it isn't listed: `--inline-max`, a whole number, which needn't be said
 abbrev pub inline_max : Rule
 inline_max = number (codes "inline-max") 0 2147483647
 
@@ -196,6 +196,7 @@ rule_at argument.Offset = offset
 rule_at argument.OffsetInSource = offset
 rule_at argument.Older = older
 rule_at argument.InlineMax = inline_max
+rule_at argument.InlineLonger = inline_max
 rule_at argument.Keep = keep
 rule_at argument.Steps = steps
 rule_at argument.Image = word (codes "image")
@@ -315,7 +316,7 @@ program_commands =
     ∷ (command (codes "find") (word (codes "flash") ∷ device ∷ [])).top
     ∷ asking (codes "extract") (word (codes "dir") ∷ path_or_root ∷ [])
     ∷ asking (codes "salvage") (word (codes "dir") ∷ [])
-    ∷ asking (codes "check") (json ∷ [])
+    ∷ asking (codes "check") (inline_max ∷ json ∷ [])
     ∷ asking (codes "ls") (path_or_root ∷ digests ∷ json ∷ [])
     ∷ asking (codes "blocks") (sum ∷ json ∷ [])
     ∷ asking (codes "cat") (word (codes "path") ∷ [])

@@ -65,6 +65,8 @@ pub(crate) enum Argument {
     Older,
     /// The greatest length of a file that stands in its entry.
     InlineMax,
+    /// The length from which on files that stand in their entries are listed.
+    InlineLonger,
     /// The number of images of the past that are kept.
     Keep,
     /// The number of changes that are taken back or made again.
@@ -334,6 +336,13 @@ static INLINE_MAX: ArgumentRow = ArgumentRow {
     help: "Greatest length in bytes of a file that stands in its entry; never more than 1022 or an eighth of a block",
 };
 
+/// The length from which on files that stand in their entries are listed.
+static INLINE_LONGER: ArgumentRow = ArgumentRow {
+    id: "inline-max",
+    form: Form::Number("BYTES", 0, 2_147_483_647),
+    help: "List the files that stand in their entries and are longer than this, in bytes; status 1 if there are some",
+};
+
 /// The number of images that are kept.
 static KEEP: ArgumentRow = ArgumentRow {
     id: "keep",
@@ -513,6 +522,7 @@ fn row_of(argument: Argument) -> &'static ArgumentRow
         Argument::OffsetInSource => &OFFSET_IN_SOURCE,
         Argument::Older => &OLDER,
         Argument::InlineMax => &INLINE_MAX,
+        Argument::InlineLonger => &INLINE_LONGER,
         Argument::Keep => &KEEP,
         Argument::Steps => &STEPS,
         Argument::Image => &IMAGE,

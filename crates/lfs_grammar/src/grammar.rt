@@ -139,6 +139,7 @@ static COMMANDS: [CommandRow; 26] = [
         arguments: &[
             Argument::Block,
             Argument::Image,
+            Argument::InlineLonger,
             Argument::Json,
             Argument::Device,
             Argument::Offset,
