@@ -76,7 +76,7 @@ LeavesInput step old new = reads_input step ≡ false → new.typed ≡ old.type
 
 -- a query with its other image in hand: the bytes of the file of that name
 abbrev pub HandsQuestion : Option Files → Query (Bor (List ℕ)) → Question → Type 0
-HandsQuestion files (Check version) (Check same) = same ≡ version
+HandsQuestion files (Check version most) (Check same same_most) = (same ≡ version) × (same_most ≡ most)
 HandsQuestion files (Ls path digests) (Ls same_path same_digests) = (same_path ≡ path) × (same_digests ≡ digests)
 HandsQuestion files (Blocks sums) (Blocks same) = same ≡ sums
 HandsQuestion files (Cat path) (Cat text) = text ≡ path

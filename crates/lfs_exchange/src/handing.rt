@@ -227,7 +227,7 @@ pub fn question_of<'a, H: Host>(
     ensures kept { KeepsAll (H.known host.old) (H.known host.new) }
 {
     match *query {
-        Query::Check { version } => Ok(Query::Check { version }),
+        Query::Check { version, most } => Ok(Query::Check { version, most }),
         Query::Ls { path, digests } => Ok(Query::Ls { path, digests }),
         Query::Blocks { sums } => Ok(Query::Blocks { sums }),
         Query::Cat { path } => Ok(Query::Cat { path }),
