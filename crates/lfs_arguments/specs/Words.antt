@@ -199,7 +199,7 @@ IsKeepSaid number rows = HasNumberIfSaid rows keep number
 
 -- the query that a name and its options say, where another image has blocks of this size
 abbrev pub IsQuery : Query (Bor (List ℕ)) → Text → List Row → ℕ → Type 0
-IsQuery (Check version) name rows other = name ≡ codes "check"
+IsQuery (Check version most) name rows other = (name ≡ codes "check") × HasNumberIfSaid rows inline_max most
 IsQuery (Ls path digests) name rows other =
     (name ≡ codes "ls") × HasPathOrRoot rows path.now × (digests ≡ is_flagged (codes "sha256") rows)
 IsQuery (Blocks sums) name rows other = (name ≡ codes "blocks") × (sums ≡ is_flagged (codes "sum") rows)

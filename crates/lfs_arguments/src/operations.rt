@@ -2,10 +2,11 @@
 
 ghost use Rattle.std.specs.Prelude.{◌≡◌, ◌<◌, ◌⊎◌, ℕ, IfErr, IfOk, Some, codes, false, true};
 ghost use Rattle.clap.specs.Words.{Text, found_of, rows_of};
-ghost use Rattle.lfs_grammar.specs.Grammar.{NamesCommand, TakesNoImage, is_change};
+ghost use Rattle.lfs_grammar.specs.Grammar.{NamesCommand, TakesNoImage, inline_max, is_change};
 ghost use Rattle.lfs_history.specs.Taking.{MayKeep};
 ghost use Rattle.lfs_request.specs.Operation.{IsOperationInRange};
-ghost use Rattle.lfs_arguments.specs.Words.{HasContents, IsCommand, IsCommandUsageError, IsKeepSaid, IsManner, IsMostSaid, IsOffsetUsageError, IsQuery, IsSizeUsageError, IsOperation, IsView, is_command};
+ghost use Rattle.lfs_arguments.specs.Words.{HasContents, HasNumberIfSaid, IsCommand, IsCommandUsageError, IsKeepSaid, IsManner, IsMostSaid, IsOffsetUsageError};
+ghost use Rattle.lfs_arguments.specs.Words.{IsOperation, IsQuery, IsSizeUsageError, IsView, is_command};
 ghost use Rattle.lfs_arguments.specs.Words.{HasPathOrRoot, IsNoPast, IsNoTreeCommand, IsNoViewing, IsTreeChange, form_said, is_of_tree, is_other, is_question};
 ghost use Rattle.lfs_arguments.specs.declared.usage_error.UsageError.TheVariants.{Memory, Unsaid};
 
@@ -33,7 +34,10 @@ fn question_of<'a>(
     ensures unsaid { IfErr result (λ usage_error. NamesCommand (Some (name.now, rows_of (found_of options.now))) → is_question name.now ≡ false) }
 {
     match name {
-        "check" => Ok(Query::Check { version: VERSION }),
+        "check" => Ok(Query::Check {
+            version: VERSION,
+            most: most_if_said(options),
+        }),
         "ls" => Ok(Query::Ls {
             path: path_or_root(options),
             digests: said(options, "sha256"),
@@ -173,11 +177,18 @@ fn path_or_root<'a>(options: &ArgMatches<'a>) -> &'a [u8]
     }
 }
 
+/// The length that is said of files that stand in their entries.
+fn most_if_said(options: &ArgMatches<'_>) -> Option<u32>
+    ensures { HasNumberIfSaid (rows_of (found_of options.now)) inline_max result }
+{
+    number_if_said(options, "inline-max")
+}
+
 /// The greatest length of a file that stands in its entry: by default the most that an entry holds.
 fn most_of(options: &ArgMatches<'_>) -> u32
     ensures { IsMostSaid result (rows_of (found_of options.now)) }
 {
-    number_if_said(options, "inline-max").unwrap_or(MOST_HELD)
+    most_if_said(options).unwrap_or(MOST_HELD)
 }
 
 /// The change of a whole tree that words say.
