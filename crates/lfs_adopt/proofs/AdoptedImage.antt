@@ -16,15 +16,15 @@ use Rattle.lfs_settle.specs.InStep.{thread_pairs}
 use Rattle.lfs_settle.specs.Relaid.{device_reading_of}
 use Rattle.lfs_settle.proofs.ThreadPairs.{thread_is_ended, thread_is_front}
 use Rattle.lfs_adopt.specs.Adopted.{AdoptedImagesHoldWhatIsAdopted, AdoptedImagesKeepTheTree, IsAdoptedImage, adopted_reading_of}
-use Rattle.lfs_adopt.specs.Rewritten.{AreFlagged, AreGivenBack, IsRewrittenImage}
-use Rattle.lfs_adopt.proofs.Copied.{past_the_end}
+use Rattle.lfs_adopt.specs.Rewritten.{AreFlagged, AreTaken, IsRewrittenImage}
+use Rattle.lfs_adopt.proofs.PastTheEnd.{past_the_end}
 use Rattle.lfs_adopt.proofs.TidiedTree.{tidied_keep}
 use Rattle.lfs_adopt.proofs.RewrittenImage.{adopted_reads, carried_on, rewritten_agree, rewritten_alone, rewritten_thread}
 
--- ---- the image of which all other blocks are given back
+-- ---- the image that takes the blocks of the rewritten one's thread
 
 module _ (depend : PartsDependOnTheirBlocks) (d t e : Disk) (flags : List Bool) (disk : IsDisk d) (is : IsRewrittenImage d t)
-    (flagged : AreFlagged t.count (thread_pairs (reading_of t)) flags) (given : AreGivenBack d t e flags d.count) where
+    (flagged : AreFlagged t.count (thread_pairs (reading_of t)) flags) (given : AreTaken d t e flags d.count) where
   size_is : t.size ≡ d.size
   size_is = is.tidied.size ∙ is.relaid.joined.size ∙ is.relaid.settled.size
 
@@ -32,9 +32,13 @@ module _ (depend : PartsDependOnTheirBlocks) (d t e : Disk) (flags : List Bool) 
   count_is = is.tidied.count ∙ is.relaid.joined.count ∙ is.relaid.settled.count
 
   kept : (b : ℕ) → 0 < pairs_name b (thread_pairs (adopted_reading_of d)) → block_of e b ≡ block_of t b
-  kept b some =
-      given.flagged b
-      (flagged.named b (subst (λ (ps : List Pair). 0 < pairs_name b ps) (sym (rewritten_thread d t is)) some))
+  kept b some = elim (cases_lt b d.count) [
+    | inl below ↦
+        given.flagged b below
+        (flagged.named b (subst (λ (ps : List Pair). 0 < pairs_name b ps) (sym (rewritten_thread d t is)) some))
+    | inr past ↦
+        past_the_end e b given.disk (omega (arith, past, given.count)) ∙ sym (past_the_end t b is.tidied.disk (omega (arith, past, count_is)))
+  ]
 
   pair_kept : (p : Pair) → Contains (thread_pairs (adopted_reading_of d)) p → IsSame t e p
   pair_kept p there =
@@ -44,15 +48,11 @@ module _ (depend : PartsDependOnTheirBlocks) (d t e : Disk) (flags : List Bool) 
   pub adopted_image : IsAdoptedImage d e
   adopted_image = record {
     disk = given.disk;
-    size = given.size ∙ size_is;
-    count = given.count ∙ count_is;
+    size = given.size;
+    count = given.count;
     held = λ p there. (depend e t p (pair_kept p there)).2 ∙ rewritten_agree d t is p there;
-    alone = λ p there. carried_on d t e p given.size (inl (pair_kept p there)) (rewritten_alone d t is p there);
-    others = λ b none. elim (cases_lt b d.count) [
-      | inl below ↦ given.back b below (flagged.unnamed b (ap (pairs_name b) (rewritten_thread d t is) ∙ none))
-      | inr past ↦
-          past_the_end e b given.disk (omega (arith, past, given.count, count_is)) ∙ sym (past_the_end d b disk past)
-    ];
+    alone = λ p there. carried_on d t e p (given.size ∙ sym size_is) (inl (pair_kept p there)) (rewritten_alone d t is p there);
+    others = λ b none. given.unflagged b (flagged.unnamed b (ap (pairs_name b) (rewritten_thread d t is) ∙ none));
   }
 
 -- ---- the laws

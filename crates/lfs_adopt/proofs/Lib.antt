@@ -1,12 +1,13 @@
 pub mod AdoptedAgain
 pub mod AdoptedImage
 pub mod AlikeVolumes
-pub mod Copied
+pub mod Drafts
 pub mod Filled
 pub mod FilledAlike
 pub mod Flags
-pub mod GivenBack
+pub mod PastTheEnd
 pub mod RewrittenImage
+pub mod Taken
 pub mod TidiedAlike
 pub mod TidiedBlocks
 pub mod TidiedImage

@@ -1,5 +1,6 @@
 pub mod Adopted
 pub mod Changed
+pub mod Draft
 pub mod Laws
 pub mod Planned
 pub mod Rewritten

@@ -4,6 +4,7 @@
 
 mod adopting;
 mod changed;
+mod draft;
 mod laws;
 mod planning;
 mod thread;
@@ -11,6 +12,7 @@ mod tidied_parts;
 mod tidying;
 
 pub use adopting::{TakenOver, adopted};
+pub use draft::{Draft, NewBlock, put_drafted};
 pub use laws::{
     adopted_images_keep_the_tree, adopted_once, tidied_images_hold_what_is_tidied,
     tidied_keep_the_tree, tidied_parts_have_entries, tidied_stay,

@@ -4,8 +4,8 @@ ghost use Rattle.std.specs.Prelude.{OnOk};
 ghost use Rattle.lfs_adopt.specs.Tidied.{IsTidiedImage};
 
 use crate::planning::parts_to_put;
-use lfs_block::{Blocks, Image};
-use lfs_lower::put_parts;
+use lfs_block::Blocks;
+use lfs_lower::{Rewrite, put_parts};
 use lfs_meta::parts_depend_on_their_blocks;
 use std::alloc::{AllocError, Global};
 
@@ -13,8 +13,8 @@ use std::alloc::{AllocError, Global};
 /// state then, and only pairs that change are rewritten. If the thread isn't whole, the shares of the state don't cancel each other, or a
 /// pair has no room for what it is to hold, nothing is changed. If memory is refused, some pairs may be rewritten, and the image is of no
 /// use. Takes memory.
-pub fn tidy(alloc: Global, image: &mut Image) -> Result<(), AllocError>
-    ensures { OnOk result (IsTidiedImage image.old.disk image.new.disk) }
+pub fn tidy<B: Rewrite>(alloc: Global, image: &mut B) -> Result<(), AllocError>
+    ensures { OnOk result (IsTidiedImage (B.disk image.old) (B.disk image.new)) }
 {
     parts_depend_on_their_blocks();
     let _fits_the_limits = image.size();

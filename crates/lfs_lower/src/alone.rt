@@ -5,7 +5,8 @@ ghost use Rattle.lfs_block.specs.Bytes.{IsBytes};
 ghost use Rattle.lfs_lower.specs.Alone.{IsWrittenAlone, is_silent};
 
 use crate::kept::kept_edits;
-use lfs_block::{Blocks, Image, put_blocks_stand};
+use crate::rewrite::Rewrite;
+use lfs_block::put_blocks_stand;
 use lfs_tag::Log;
 use std::alloc::{AllocError, Global};
 
@@ -20,28 +21,27 @@ fn is_silent(alloc: Global, block: &[u8]) -> Result<bool, AllocError>
 }
 
 /// Writes a block of an image, and erases the one beside it. A block of which neither version reads a commit stays as it is: it says nothing,
-/// and a file may have it too. Memory that is refused changes nothing. Takes memory.
-pub(crate) fn write_alone(
+/// and a file may have it too. If memory is refused, the live block may be written. Takes memory.
+pub(crate) fn write_alone<B: Rewrite>(
     alloc: Global,
-    image: &mut Image,
+    image: &mut B,
     live: u32,
     beside: u32,
     block: &[u8],
 ) -> Result<(), AllocError>
     requires apart { live ≢ beside }
-    requires first { live < image.old.disk.count }
-    requires second { beside < image.old.disk.count }
-    requires complete { length block.now ≡ image.old.disk.size }
-    ensures written { OnOk result (IsWrittenAlone image.old.disk image.new.disk live beside block.now) }
+    requires first { live < (B.disk image.old).count }
+    requires second { beside < (B.disk image.old).count }
+    requires complete { length block.now ≡ (B.disk image.old).size }
+    ensures written { OnOk result (IsWrittenAlone (B.disk image.old) (B.disk image.new) live beside block.now) }
 {
     put_blocks_stand();
     let size = image.size();
     if is_silent(alloc, image.block(beside))? {
-        image.write_block(live, block);
+        image.rewrite(alloc, live, block)?;
         return Ok(());
     }
     let erased = vec![in alloc; 0xff; size as usize]?;
-    image.write_block(live, block);
-    image.write_block(beside, &erased);
-    Ok(())
+    image.rewrite(alloc, live, block)?;
+    image.rewrite(alloc, beside, &erased)
 }

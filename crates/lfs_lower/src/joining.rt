@@ -7,8 +7,9 @@ ghost use Rattle.lfs_lower.specs.OneSuperblock.{is_header, lowered_entry};
 
 use crate::header::lower_header;
 use crate::putting::{all_can, put_parts};
+use crate::rewrite::Rewrite;
 use crate::superblocks::{is_superblock, superblock_parts};
-use lfs_block::{Blocks, Image};
+use lfs_block::Blocks;
 use lfs_meta::{Body, Entry, Part, parts_depend_on_their_blocks};
 use std::alloc::{AllocError, Global};
 
@@ -89,8 +90,8 @@ fn joined_parts<B: Blocks>(alloc: Global, blocks: &B) -> Result<Vec<Part>, Alloc
 /// Joins the superblocks of an image of version 2.0, which a device may have expanded: the last one, lowered, stands in the place of the
 /// first, and there is no other. Where a pair has no room for that, nothing is changed. The error is want of memory; some pairs may be
 /// rewritten then. Takes memory.
-pub fn join(alloc: Global, image: &mut Image) -> Result<(), AllocError>
-    ensures { OnOk result (IsJoinedImage image.old.disk image.new.disk) }
+pub fn join<B: Rewrite>(alloc: Global, image: &mut B) -> Result<(), AllocError>
+    ensures { OnOk result (IsJoinedImage (B.disk image.old) (B.disk image.new)) }
 {
     parts_depend_on_their_blocks();
     let parts = joined_parts(alloc, image)?;

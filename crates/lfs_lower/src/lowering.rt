@@ -11,6 +11,7 @@ use crate::later_part::later_part_at;
 use crate::laws::lowered_blocks_are_read;
 use crate::plain::is_plain_pair;
 use crate::putting::can_be_put;
+use crate::rewrite::Rewrite;
 use crate::seen_pair::is_later;
 use lfs_block::{Blocks, Image, put_blocks_stand};
 use lfs_meta::revision;
@@ -79,15 +80,15 @@ fn later_live<B: Blocks>(
 
 /// The block of a pair written anew from the entries that version 2.1 reads of it, with this revision; `None` if it reads no part, or the
 /// part has no room. Takes memory.
-fn block_anew(
+fn block_anew<B: Blocks>(
     alloc: Global,
-    image: &Image,
+    image: &B,
     pair: (u32, u32),
     number: u32,
 ) -> Result<Option<Vec<u8>>, AllocError>
-    requires first { pair.0 < image.now.disk.count }
-    requires second { pair.1 < image.now.disk.count }
-    ensures { IfOk result (λ found. IfSome found (λ block. IsReadFor image.now.disk pair block.items)) }
+    requires first { pair.0 < (B.disk image.now).count }
+    requires second { pair.1 < (B.disk image.now).count }
+    ensures { IfOk result (λ found. IfSome found (λ block. IsReadFor (B.disk image.now) pair block.items)) }
 {
     let Some(part) = later_part_at(alloc, image, pair)? else {
         return Ok(None);
@@ -101,16 +102,16 @@ fn block_anew(
 
 /// What the live block of a pair is written as: that of the root's first pair anew, since its superblock states another version, and each
 /// other one lowered. Takes memory.
-fn block_for(
+fn block_for<B: Blocks>(
     alloc: Global,
-    image: &Image,
+    image: &B,
     pair: (u32, u32),
     live: u32,
 ) -> Result<Vec<u8>, AllocError>
-    requires first { pair.0 < image.now.disk.count }
-    requires second { pair.1 < image.now.disk.count }
-    requires live { (beside : ℕ) × IsLaterLive image.now.disk pair live beside }
-    ensures { IfOk result (λ block. IsReadFor image.now.disk pair block.items) }
+    requires first { pair.0 < (B.disk image.now).count }
+    requires second { pair.1 < (B.disk image.now).count }
+    requires live { (beside : ℕ) × IsLaterLive (B.disk image.now) pair live beside }
+    ensures { IfOk result (λ block. IsReadFor (B.disk image.now) pair block.items) }
 {
     lowered_blocks_are_read();
     erased_block();
@@ -127,12 +128,12 @@ fn block_for(
 
 /// Lowers a pair: it holds what version 2.1 reads of it then. A pair of which version 2.0 reads that already stays as it is. In another one
 /// the block that version 2.1 takes for the live one keeps its place and its revision, and says all in one commit; the one beside it is
-/// erased, unless it says nothing. The superblock states 2.0 in the place of 2.1. Memory that is refused changes nothing. Takes memory.
-pub fn lower_pair(alloc: Global, image: &mut Image, pair: (u32, u32)) -> Result<(), AllocError>
+/// erased, unless it says nothing. The superblock states 2.0 in the place of 2.1. If memory is refused, the live block may be written. Takes memory.
+pub fn lower_pair<B: Rewrite>(alloc: Global, image: &mut B, pair: (u32, u32)) -> Result<(), AllocError>
     requires apart { pair.0 ≢ pair.1 }
-    requires first { pair.0 < image.old.disk.count }
-    requires second { pair.1 < image.old.disk.count }
-    ensures { OnOk result (IsPairLowered image.old.disk image.new.disk pair) }
+    requires first { pair.0 < (B.disk image.old).count }
+    requires second { pair.1 < (B.disk image.old).count }
+    ensures { OnOk result (IsPairLowered (B.disk image.old) (B.disk image.new) pair) }
 {
     erased_block();
     log_is_read();

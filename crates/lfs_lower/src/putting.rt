@@ -8,7 +8,8 @@ ghost use Rattle.lfs_lower.specs.Joining.{ArePartsPut, ArePlaces, CanPut, IsPart
 ghost use Rattle.lfs_lower.specs.OneSuperblock.{can_be_put, tail_within};
 
 use crate::alone::write_alone;
-use lfs_block::{Blocks, Image};
+use crate::rewrite::Rewrite;
+use lfs_block::Blocks;
 use lfs_meta::{LiveBlock, Part, Tail, parts_depend_on_their_blocks, revision};
 use lfs_pair::{holds_part, part_block, part_weight};
 use lfs_tag::laws::{erased_block, log_is_read};
@@ -80,10 +81,10 @@ fn places_of<B: Blocks>(blocks: &B, pair: (u32, u32)) -> PairPlaces
 }
 
 /// Writes a part into its pair: the live block keeps its place and its revision, and the one beside it is erased, unless it says nothing. A
-/// pair that holds the part already stays as it is. Memory that is refused changes nothing. Takes memory.
-fn put_part(alloc: Global, image: &mut Image, part: &Part) -> Result<(), AllocError>
-    requires { CanPut image.old.disk part.now }
-    ensures { OnOk result (IsPartPut image.old.disk image.new.disk part.now) }
+/// pair that holds the part already stays as it is. If memory is refused, the live block may be written. Takes memory.
+fn put_part<B: Rewrite>(alloc: Global, image: &mut B, part: &Part) -> Result<(), AllocError>
+    requires { CanPut (B.disk image.old) part.now }
+    ensures { OnOk result (IsPartPut (B.disk image.old) (B.disk image.new) part.now) }
 {
     let size = image.size();
     if holds_part(alloc, image, part)? {
@@ -99,10 +100,10 @@ fn put_part(alloc: Global, image: &mut Image, part: &Part) -> Result<(), AllocEr
 /// Writes parts into their pairs, no two of which have a block in common: each live block keeps its place and its revision, and the one
 /// beside it is erased, unless it says nothing. Pairs that hold their parts already stay as they are. If memory is refused, those that come
 /// first are written. Takes memory.
-pub fn put_parts(alloc: Global, image: &mut Image, parts: &[Part]) -> Result<(), AllocError>
-    requires can { All (CanPut image.old.disk) parts.now }
+pub fn put_parts<B: Rewrite>(alloc: Global, image: &mut B, parts: &[Part]) -> Result<(), AllocError>
+    requires can { All (CanPut (B.disk image.old)) parts.now }
     requires apart { (b : ℕ) → pairs_name b (map (λ p. p.0) parts.now) ≤ 1 }
-    ensures { OnOk result (ArePartsPut image.old.disk image.new.disk parts.now) }
+    ensures { OnOk result (ArePartsPut (B.disk image.old) (B.disk image.new) parts.now) }
 {
     parts_depend_on_their_blocks();
     let _fits_the_limits = image.size();

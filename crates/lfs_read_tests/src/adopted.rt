@@ -1,7 +1,10 @@
 //! Images that a real littlefs left, taken over in place.
 
+ghost use Rattle.std.specs.Prelude.{IfSome};
+ghost use Rattle.lfs_adopt.specs.Draft.{IsDraft};
+
 use crate::images::image_of;
-use lfs_adopt::adopted;
+use lfs_adopt::{NewBlock, adopted, put_drafted};
 use lfs_block::Image;
 use std::alloc::Global;
 
@@ -112,21 +115,45 @@ struct Case<'a> {
     is_moved: bool,
 }
 
+/// What taking an image over tells.
+#[derive(Drop)]
+struct Told {
+    /// The blocks that are written anew.
+    blocks: Vec<Option<NewBlock>>,
+    /// The blocks that differ.
+    changed: Vec<u32>,
+    /// Whether a move is ended.
+    is_moved: bool,
+}
+
+/// How an image is taken over; `None` if memory is refused.
+fn taken_with(alloc: Global, image: &Image) -> Option<Told>
+    ensures { IfSome result (λ told. IsDraft (record { base = image.now.disk; blocks = told.blocks.items })) }
+{
+    match adopted(alloc, image) {
+        Ok(taken) => Some(Told {
+            blocks: taken.draft.into_blocks(),
+            changed: taken.changed,
+            is_moved: taken.ended.moved.is_some(),
+        }),
+        Err(_) => None,
+    }
+}
+
 /// Whether an image of blocks of 256 bytes that are erased but for logs is taken over so.
 fn is_taken_over(alloc: Global, case: &Case<'_>) -> bool {
     let old = image_of(alloc, 256, 6_144, case.old);
     let new = image_of(alloc, 256, 6_144, case.new);
-    let (Some(old), Some(new)) = (old, new) else {
+    let (Some(mut old), Some(new)) = (old, new) else {
         return false;
     };
-    match adopted(alloc, &old) {
-        Ok(taken) => {
-            taken.changed.as_slice() == case.changed
-                && taken.ended.moved.is_some() == case.is_moved
-                && taken.image.into_bytes() == new.into_bytes()
-        }
-        Err(_) => false,
-    }
+    let Some(told) = taken_with(alloc, &old) else {
+        return false;
+    };
+    put_drafted(&mut old, &told.blocks);
+    told.changed.as_slice() == case.changed
+        && told.is_moved == case.is_moved
+        && old.into_bytes() == new.into_bytes()
 }
 
 #[test]

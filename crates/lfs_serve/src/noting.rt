@@ -3,6 +3,7 @@
 ghost use Rattle.std.specs.Prelude.{◌≡◌};
 
 use crate::unfinished::{Telling, is_nothing, unfinished_lines, unfinished_within};
+use lfs_adopt::Draft;
 use lfs_block::Image;
 use lfs_report::Context;
 use lfs_request::{Manner, Outcome, Query};
@@ -86,20 +87,25 @@ pub(crate) fn note_unfinished(
     }
 }
 
-/// What is told of what was left unfinished in an image of these bytes, if it is taken over. Takes memory, and tells of nothing if it is
-/// refused.
+/// What is told of what was left unfinished in an image of these bytes, if it is taken over. Hands the bytes out again. Takes memory, and
+/// tells of nothing if it is refused.
 pub(crate) fn lines_taken_over(
     alloc: Global,
     step: &Step<'_>,
     size: u32,
-    bytes: &[u8],
-) -> Vec<String> {
+    bytes: Vec<u8>,
+) -> (Vec<u8>, Vec<String>)
+    ensures { result.0.items ≡ bytes.items }
+{
     let Step::Adopt { .. } = step else {
-        return Vec::new(alloc);
+        return (bytes, Vec::new(alloc));
     };
-    match lines_ended(alloc, size, bytes) {
-        Ok(lines) => lines,
-        Err(_) => Vec::new(alloc),
+    match Image::new(bytes, size) {
+        Ok(image) => {
+            let lines = lines_ended(alloc, &image).unwrap_or(Vec::new(alloc));
+            (image.into_bytes(), lines)
+        }
+        Err((_, bytes)) => (bytes, Vec::new(alloc)),
     }
 }
 
@@ -120,17 +126,14 @@ pub(crate) fn by_device(
     outcome
 }
 
-/// What is told of what is ended in an image of these bytes. Takes memory.
-fn lines_ended(alloc: Global, size: u32, bytes: &[u8]) -> Result<Vec<String>, AllocError> {
-    let own = Vec::from_slice(alloc, bytes)?;
-    let Ok(mut image) = Image::new(own, size) else {
-        return Ok(Vec::new(alloc));
-    };
-    let ended = settle(alloc, &mut image)?;
+/// What is told of what is ended in an image that is taken over. Takes memory.
+fn lines_ended(alloc: Global, image: &Image) -> Result<Vec<String>, AllocError> {
+    let mut draft = Draft::of(alloc, image)?;
+    let ended = settle(alloc, &mut draft)?;
     if is_nothing(&ended) {
         return Ok(Vec::new(alloc));
     }
-    unfinished_lines(alloc, &image, &ended, Telling::TakenOver)
+    unfinished_lines(alloc, &draft, &ended, Telling::TakenOver)
 }
 
 /// Puts lines after those that are there, unless memory is refused.

@@ -94,14 +94,14 @@ pub(crate) fn stepped_in<H: Host>(
 {
     pass_step(manner, &step, request.size, &handed.image, context)?;
     note_step(alloc, manner, &step, request.size, &handed.image, context);
-    let lines = lines_taken_over(alloc, &step, request.size, &handed.image);
     let Handed {
         kind,
         target,
         image,
         journal,
     } = handed;
-    let (held, ended) = unfinished_in(alloc, manner, &step, request.size, image);
+    let (whole, lines) = lines_taken_over(alloc, &step, request.size, image);
+    let (held, ended) = unfinished_in(alloc, manner, &step, request.size, whole);
     let read = read_by(alloc, manner.view, request.size, held)?;
     let image = note_unfinished(alloc, request.size, read, ended, context);
     match taken(alloc, host, request, context, step, image, journal) {

@@ -1,6 +1,6 @@
 //! What is told of what a device left unfinished in an image that is read as a device does.
 
-use lfs_block::{Image, MAX_BLOCK_COUNT};
+use lfs_block::{Blocks, Image, MAX_BLOCK_COUNT};
 use lfs_settle::{DroppedDirectory, Ended, EndedMove, EndedStep, unfinished};
 use lfs_survey::{Area, BlocksText, Lines, Place, PlacedPath, Shown, Survey, survey_all};
 use std::alloc::{AllocError, Global};
@@ -47,9 +47,9 @@ pub(crate) fn is_nothing(ended: &Ended) -> bool {
 /// The lines of an image in which this was ended: one for the entry that was being moved, one for each directory with entries that no path
 /// leads to, and one for each directory that stands elsewhere than the thread says. Of them at most a hundred, and how many more there are.
 /// Takes memory.
-pub(crate) fn unfinished_lines(
+pub(crate) fn unfinished_lines<B: Blocks>(
     alloc: Global,
-    image: &Image,
+    image: &B,
     ended: &Ended,
     telling: Telling,
 ) -> Result<Vec<String>, AllocError> {

@@ -8,8 +8,8 @@ ghost use Rattle.lfs_settle.specs.Settled.{IsSettledImage};
 use crate::ended::Ended;
 use crate::lowering::lower_pairs;
 use crate::planning::plan_of;
-use lfs_block::{Blocks, Image};
-use lfs_lower::put_parts;
+use lfs_block::Blocks;
+use lfs_lower::{Rewrite, put_parts};
 use lfs_meta::parts_depend_on_their_blocks;
 use std::alloc::{AllocError, Global};
 
@@ -20,9 +20,9 @@ use std::alloc::{AllocError, Global};
 /// versions read the same, and which holds its part already, stays as it is. If the thread isn't whole, the state isn't one that a device
 /// ends, or a pair has no room for what it is to hold, the thread is lowered as it stands, as far as its pairs are read, and nothing is
 /// ended. If memory is refused, some pairs may be rewritten, and the image is of no use. Takes memory.
-pub fn settle(alloc: Global, image: &mut Image) -> Result<Ended, AllocError>
-    ensures settled { OnOk result (IsSettledImage image.old.disk image.new.disk) }
-    ensures ended { IfOk result (λ ended. Ends (later_reading_of image.old.disk) ended) }
+pub fn settle<B: Rewrite>(alloc: Global, image: &mut B) -> Result<Ended, AllocError>
+    ensures settled { OnOk result (IsSettledImage (B.disk image.old) (B.disk image.new)) }
+    ensures ended { IfOk result (λ ended. Ends (later_reading_of (B.disk image.old)) ended) }
 {
     parts_depend_on_their_blocks();
     let _fits_the_limits = image.size();

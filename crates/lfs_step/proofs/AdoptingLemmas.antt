@@ -4,7 +4,6 @@ use Rattle.std.proofs.lemmas.Bool.{eqb-true}
 use Rattle.std.specs.Prelude.{if◌then◌else◌, unwrap_or}
 use Rattle.lfs_block.specs.Disk.{Disk, IsDisk, image_of}
 use Rattle.lfs_block.proofs.BytesLemmas.{at_bytes, image_of_disk}
-use Rattle.lfs_history.specs.History.{IsHistory}
 use Rattle.lfs_host.specs.Send.{Sends, SendsBeginning}
 use Rattle.lfs_adopt.specs.Adopted.{IsAdoptedImage}
 use Rattle.lfs_adopt.specs.Changed.{changed_blocks}
@@ -13,7 +12,7 @@ use Rattle.lfs_command.specs.declared.refusal.Refusal.TheVariants.{Memory}
 use Rattle.lfs_request.specs.declared.fault.Fault.{Fault}
 use Rattle.lfs_request.specs.declared.fault.Fault.TheVariants.{Image, Refused, JournalHasChanges, CannotWrite}
 use Rattle.lfs_request.specs.declared.outcome.Outcome.{Outcome}
-use Rattle.lfs_change.specs.Adopting.{IsAdoption, RefusesAdopting}
+use Rattle.lfs_change.specs.Adopting.{IsAdoption, RefusesAdopting, adopted_with}
 use Rattle.lfs_change.specs.declared.adopting.Adoption.{Adoption}
 use Rattle.lfs_step.specs.Adopting.{IsTakenOver, LeavesTakenOver, RefusesImageTaken, RefusesTaking, SendsChanged, drops_changes, is_empty, journal_left, journal_stays}
 use Rattle.lfs_step.specs.ChangedText.{changed_text}
@@ -109,14 +108,14 @@ left_is size d e left sizes adopted same = ap₂ image_of (sym sizes ∙ sym ado
 
 pub over_left : (replaces : Bool) (size : ℕ) (bytes journal : List ℕ) (d : Disk) (a : Adoption) (o : Outcome) → IsDisk d → d.size ≡ size
     → d.bytes ≡ bytes → IsAdoption d a → (not replaces && drops_changes a.changed.items journal) ≡ false
-    → o.image.items ≡ a.session.present.bytes → o.journal.items ≡ journal_left a.changed.items a.session.present journal
+    → o.image.items ≡ (adopted_with d a).bytes → o.journal.items ≡ journal_left a.changed.items (adopted_with d a) journal
     → LeavesTakenOver replaces size bytes journal o
 over_left replaces size bytes journal d a o is sizes same adoption may image left =
-    let e = a.session.present in
+    let e = adopted_with d a in
     let taken : IsTakenOver replaces d journal e o.journal.items = record {
       old = is;
       adopted = adoption.adopted;
-      history = subst IsHistory adoption.fresh adoption.history;
+      history = adoption.history;
       journal_is = left ∙ ap (λ (changed : List ℕ). journal_left changed e journal) adoption.changed;
       may = ap (λ (changed : List ℕ). not replaces && drops_changes changed journal) (sym adoption.changed) ∙ may;
     } in

@@ -3,7 +3,7 @@
 ghost use Rattle.std.specs.Prelude.{◌≡◌, ◌&&◌, false, not, MatchResult, None, Some, if◌then◌else◌};
 ghost use Rattle.std.specs.Result.{result_err};
 ghost use Rattle.lfs_block.specs.Disk.{Disk};
-ghost use Rattle.lfs_change.specs.Adopting.{IsAdoption};
+ghost use Rattle.lfs_change.specs.Adopting.{IsAdoption, adopted_with};
 ghost use Rattle.lfs_request.specs.Fault.{blames_output, status_of};
 ghost use Rattle.lfs_request.specs.declared.fault.Fault.TheVariants.{JournalHasChanges};
 ghost use Rattle.lfs_step.specs.Adopting.{RefusesImageTaken, SendsChanged, drops_changes, journal_left, journal_stays};
@@ -12,9 +12,11 @@ ghost use Rattle.lfs_step.specs.declared.step.Step.TheVariants.{Adopt};
 
 use crate::changed_text::changed_text;
 use crate::sending::sent_complete;
-use lfs_block::Image;
+use lfs_adopt::put_drafted;
+use lfs_block::{Blocks, Image};
 use lfs_change::{Adoption, adopted};
 use lfs_host::{Sink, send};
+use lfs_journal::Journal;
 use lfs_json::Form;
 use lfs_request::{Fault, Outcome};
 use std::alloc::Global;
@@ -42,7 +44,7 @@ pub(crate) fn taken_over<S: Sink>(
 {
     match Image::new(image, size) {
         Ok(image) => match told_adoption(alloc, form, replaces, &image, &journal, out) {
-            Ok(adoption) => left_by(adoption, journal),
+            Ok(adoption) => left_by(alloc, image, adoption, journal),
             Err(fault) => Outcome::new(image.into_bytes(), journal, Some(fault)),
         },
         Err((fault, image)) => Outcome::new(image, journal, Some(Fault::Image(fault))),
@@ -63,7 +65,7 @@ fn told_adoption<S: Sink>(
         (λ adoption. IsAdoption image.now.disk adoption × ((not replaces && drops_changes adoption.changed.items journal.now) ≡ false))
         (λ fault. RefusesImageTaken replaces image.now.disk journal.now fault) }
     ensures sent { MatchResult result
-        (λ adoption. SendsChanged form image.now.disk adoption.session.present None (S.sent out.old) (S.sent out.new))
+        (λ adoption. SendsChanged form image.now.disk (adopted_with image.now.disk adoption) None (S.sent out.old) (S.sent out.new))
         (λ fault. SendsChanged form image.now.disk image.now.disk (Some fault) (S.sent out.old) (S.sent out.new)) }
     ensures failed { S.failed out.new ≡ blames_output (result_err result) }
     ensures kept { S.kept out.new ≡ S.kept out.old }
@@ -92,18 +94,21 @@ fn journal_stays(changed: &[u32], journal: &[u8]) -> bool
     changed.is_empty() && !journal.is_empty()
 }
 
-/// What an image is left with that is taken over: the journal that is there if no block changes, else one without changes.
-fn left_by(adoption: Adoption, journal: Vec<u8>) -> Outcome
-    requires { (d : Disk) × IsAdoption d adoption }
-    ensures image { result.image.items ≡ adoption.session.present.bytes }
-    ensures journal { result.journal.items ≡ journal_left adoption.changed.items adoption.session.present journal.items }
+/// What an image is left with that is taken over: the blocks that are written anew, and the journal that is there if no block changes, else
+/// one without changes.
+fn left_by(alloc: Global, image: Image, adoption: Adoption, journal: Vec<u8>) -> Outcome
+    requires { IsAdoption image.disk adoption }
+    ensures image { result.image.items ≡ (adopted_with image.disk adoption).bytes }
+    ensures journal { result.journal.items ≡ journal_left adoption.changed.items (adopted_with image.disk adoption) journal.items }
     ensures fault { result.fault ≡ None }
     ensures status { result.status ≡ 0 }
 {
-    let Adoption { session, changed } = adoption;
-    let (image, empty) = session.into_parts();
+    let Adoption { blocks, changed } = adoption;
+    let mut image = image;
+    put_drafted(&mut image, &blocks);
     if journal_stays(&changed, &journal) {
         return Outcome::new(image.into_bytes(), journal, None);
     }
+    let empty = Journal::new(image.size(), image.count(), Vec::new(alloc), 0);
     Outcome::done(image.into_bytes(), empty)
 }

@@ -10,29 +10,29 @@ use Rattle.lfs_adopt.proofs.TidiedBlocks.{no_parts, planned_image, put_once, som
 use Rattle.lfs_adopt.proofs.tidying.tidy.Goals as goal
 
 pub returns-then-is_empty : goal.returns-then-is_empty
-returns-then-is_empty c =
+returns-then-is_empty g c =
     let changed : List PairPart = c.in_ok-changed.changed.items in
-    untouched_image c.parts_depend_on_their_blocks.ensures c.args.image.now.disk changed c.size-fits_the_limits.ensures.disk
+    untouched_image c.parts_depend_on_their_blocks.ensures (g.B.Blocks.disk c.args.image.now) changed c.size-fits_the_limits.ensures.disk
     c.in_ok-changed.ensures
     (no_parts changed (vec_len c.in_ok-changed.changed) c.is_empty.result c.in_ok-changed.changed.ok.0 c.is_empty.ensures
     c.if-is_empty.true)
 
 pub put_parts-requires-clause-can : goal.put_parts-requires-clause-can
-put_parts-requires-clause-can c =
-    subst (All (CanPut c.args.image.now.disk)) (sym c.deref.ensures.value) c.in_ok-changed.ensures.can
+put_parts-requires-clause-can g c =
+    subst (All (CanPut (g.B.Blocks.disk c.args.image.now))) (sym c.deref.ensures.value) c.in_ok-changed.ensures.can
 
 pub put_parts-requires-clause-apart : goal.put_parts-requires-clause-apart
-put_parts-requires-clause-apart c = λ b.
+put_parts-requires-clause-apart g c = λ b.
     subst (λ (ps : List PairPart). pairs_name b (map (λ (p : PairPart). p.0) ps) ≤ 1) (sym c.deref.ensures.value)
-    (put_once c.args.image.now.disk c.in_ok-changed.changed.items c.in_ok-changed.ensures b)
+    (put_once (g.B.Blocks.disk c.args.image.now) c.in_ok-changed.changed.items c.in_ok-changed.ensures b)
 
 pub returns : goal.returns
-returns c =
-    let d : Disk = c.args.image.now.disk in
+returns g c =
+    let d : Disk = (g.B.Blocks.disk c.args.image.now) in
     let changed : List PairPart = c.in_ok-changed.changed.items in
     let some : changed ≡ [] → ⊥ =
     some_parts changed (vec_len c.in_ok-changed.changed) c.is_empty.result c.in_ok-changed.changed.ok.0 c.is_empty.ensures
     c.if-is_empty.false in
     IfOk-weaker c.put_parts.result _ _ (λ done put.
-    planned_image c.parts_depend_on_their_blocks.ensures d c.put_parts.new.image.disk changed c.in_ok-changed.ensures
-    (subst (ArePartsPut d c.put_parts.new.image.disk) c.deref.ensures.value put) (λ none. absurd (some none))) c.put_parts.ensures
+    planned_image c.parts_depend_on_their_blocks.ensures d (g.B.Blocks.disk c.put_parts.new.image) changed c.in_ok-changed.ensures
+    (subst (ArePartsPut d (g.B.Blocks.disk c.put_parts.new.image)) c.deref.ensures.value put) (λ none. absurd (some none))) c.put_parts.ensures

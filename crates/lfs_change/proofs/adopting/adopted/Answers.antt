@@ -1,15 +1,18 @@
 -- The image that is taken over is mounted.
 use Rattle.std.proofs.Common.{subst, sym}
+use Rattle.lfs_adopt.specs.Draft.{drafted}
 use Rattle.lfs_change.specs.Adopting.{RefusesAdopting}
 use Rattle.lfs_change.proofs.AdoptingLemmas.{adopts, adopts_none}
 use Rattle.lfs_change.proofs.adopting.adopted.Goals as goal
 
-pub returns-in-Ok-clause-adopted : goal.returns-in-Ok-clause-adopted
-returns-in-Ok-clause-adopted c =
-    adopts c.args.image.now.disk c.in_ok-image.field-0.image.disk _ c.in_ok-image.ensures.image c.in-Ok.ensures.fresh c.in-Ok.ensures.history
-    c.in_ok-image.ensures.changed
-
-pub returns-in-Err-clause-refused : goal.returns-in-Err-clause-refused
-returns-in-Err-clause-refused c =
+pub returns-in_err-mounted-clause-refused : goal.returns-in_err-mounted-clause-refused
+returns-in_err-mounted-clause-refused c =
     subst (λ f. RefusesAdopting c.args.image.now.disk f) (sym c.from.ensures)
-    (adopts_none c.in-Err.field-0.fault c.args.image.now.disk c.in_ok-image.field-0.image.disk c.in_ok-image.ensures.image c.in-Err.ensures.cause)
+    (adopts_none c.in_err-mounted.field-0 c.args.image.now.disk (drafted c.in_ok-draft.field-0.draft) c.in_ok-draft.ensures.image
+    c.in_err-mounted.ensures.refused)
+
+pub returns-clause-adopted : goal.returns-clause-adopted
+returns-clause-adopted c =
+    let draft = c.in_ok-draft.field-0.draft in
+    adopts c.args.image.now.disk draft _ c.in_ok-mounted.mounted c.in_ok-draft.ensures.base c.into_blocks.ensures.blocks
+    c.into_blocks.ensures.draft c.in_ok-draft.ensures.image c.in_ok-mounted.ensures.mounted c.in_ok-draft.ensures.changed

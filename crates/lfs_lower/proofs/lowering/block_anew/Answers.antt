@@ -11,8 +11,8 @@ use Rattle.lfs_lower.proofs.LoweredPairs.{anew_for}
 use Rattle.lfs_lower.proofs.lowering.block_anew.Goals as goal
 
 pub returns : goal.returns
-returns c =
-    let d : Disk = c.args.image.now.disk in
+returns g c =
+    let d : Disk = (g.B.Blocks.disk c.args.image.now) in
     let p : PairPart = c.in-Some.part in
     let block : List ℕ = c.in_ok-block.block.items in
     let pair : p.0 ≡ c.args.pair = subst (λ o. IfSome o (λ (q : PairPart). q.0 ≡ c.args.pair)) c.in-Some.is c.in_ok-part.ensures.pair in

@@ -9,20 +9,20 @@ use Rattle.lfs_lower.proofs.LoweredPairs.{block_fits, lowered_for}
 use Rattle.lfs_lower.proofs.lowering.block_for.Goals as goal
 
 pub block-old-requires : goal.block-old-requires
-block-old-requires c =
-    live_within c.args.image.now.disk.count c.args.pair c.args.live c.requires.live.0 c.requires.first c.requires.second c.requires.live.1.of
+block-old-requires g c =
+    live_within (g.B.Blocks.disk c.args.image.now).count c.args.pair c.args.live c.requires.live.0 c.requires.first c.requires.second c.requires.live.1.of
 
 pub lowered_block-requires : goal.lowered_block-requires
-lowered_block-requires c =
-    let d : Disk = c.args.image.now.disk in
+lowered_block-requires g c =
+    let d : Disk = (g.B.Blocks.disk c.args.image.now) in
     let within : c.args.live < d.count =
     live_within d.count c.args.pair c.args.live c.requires.live.0 c.requires.first c.requires.second c.requires.live.1.of in
     subst (λ (b : List ℕ). IsBlockSize (length b)) (sym c.block-old.ensures)
     (block_fits d c.args.live c.size-fits_the_limits.ensures.disk within)
 
 pub returns : goal.returns
-returns c =
-    let d : Disk = c.args.image.now.disk in
+returns g c =
+    let d : Disk = (g.B.Blocks.disk c.args.image.now) in
     let live : ℕ = c.args.live in
     let within : live < d.count =
     live_within d.count c.args.pair live c.requires.live.0 c.requires.first c.requires.second c.requires.live.1.of in

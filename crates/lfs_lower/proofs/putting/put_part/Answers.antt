@@ -21,35 +21,35 @@ of_part d inside pair live beside is live_is beside_is =
     (subst (λ (n : ℕ). AreOf inside (number_by (live_of d inside) inside) n) (sym beside_is) (of_places (live_of d inside) inside)))
 
 pub write_alone-requires-clause-apart : goal.write_alone-requires-clause-apart
-write_alone-requires-clause-apart c =
+write_alone-requires-clause-apart g c =
     let places = c.places_of-places.ensures in
     apart_by c.args.part.now.0 c.places_of-places.result.live c.places_of-places.result.beside c.requires.apart
-    (of_part c.args.image.now.disk c.part.inside.pair c.args.part.now.0 c.places_of-places.result.live c.places_of-places.result.beside
+    (of_part (g.B.Blocks.disk c.args.image.now) c.part.inside.pair c.args.part.now.0 c.places_of-places.result.live c.places_of-places.result.beside
     (ap (λ (p : PairPart). p.0) c.part.view_is) places.live places.beside)
 
 pub write_alone-requires-clause-first : goal.write_alone-requires-clause-first
-write_alone-requires-clause-first c =
+write_alone-requires-clause-first g c =
     let places = c.places_of-places.ensures in
-    live_within c.args.image.now.disk.count c.args.part.now.0 c.places_of-places.result.live c.places_of-places.result.beside c.requires.first
+    live_within (g.B.Blocks.disk c.args.image.now).count c.args.part.now.0 c.places_of-places.result.live c.places_of-places.result.beside c.requires.first
     c.requires.second
-    (of_part c.args.image.now.disk c.part.inside.pair c.args.part.now.0 c.places_of-places.result.live c.places_of-places.result.beside
+    (of_part (g.B.Blocks.disk c.args.image.now) c.part.inside.pair c.args.part.now.0 c.places_of-places.result.live c.places_of-places.result.beside
     (ap (λ (p : PairPart). p.0) c.part.view_is) places.live places.beside)
 
 pub write_alone-requires-clause-second : goal.write_alone-requires-clause-second
-write_alone-requires-clause-second c =
+write_alone-requires-clause-second g c =
     let places = c.places_of-places.ensures in
-    beside_within c.args.image.now.disk.count c.args.part.now.0 c.places_of-places.result.live c.places_of-places.result.beside c.requires.first
+    beside_within (g.B.Blocks.disk c.args.image.now).count c.args.part.now.0 c.places_of-places.result.live c.places_of-places.result.beside c.requires.first
     c.requires.second
-    (of_part c.args.image.now.disk c.part.inside.pair c.args.part.now.0 c.places_of-places.result.live c.places_of-places.result.beside
+    (of_part (g.B.Blocks.disk c.args.image.now) c.part.inside.pair c.args.part.now.0 c.places_of-places.result.live c.places_of-places.result.beside
     (ap (λ (p : PairPart). p.0) c.part.view_is) places.live places.beside)
 
 pub returns-then-branch : goal.returns-then-branch
-returns-then-branch c = part_stays c.args.image.now.disk c.args.part.now c.size-size.ensures.disk (OnTrue_at c.if-branch.true c.in_ok-holds_part.ensures)
+returns-then-branch g c = part_stays (g.B.Blocks.disk c.args.image.now) c.args.part.now c.size-size.ensures.disk (OnTrue_at c.if-branch.true c.in_ok-holds_part.ensures)
 
 pub returns : goal.returns
-returns c =
-    let d : Disk = c.args.image.now.disk in
-    let e : Disk = c.write_alone.new.image.disk in
+returns g c =
+    let d : Disk = (g.B.Blocks.disk c.args.image.now) in
+    let e : Disk = (g.B.Blocks.disk c.write_alone.new.image) in
     let p : PairPart = c.args.part.now in
     let live : ℕ = c.places_of-places.result.live in
     let beside : ℕ = c.places_of-places.result.beside in

@@ -66,7 +66,7 @@ returns-in_err-stored-in-Ok-clause-ended g c =
     let runs : RunsStep step manner size name old by_stored None outcome =
     step_ran step manner size name old by_stored h c.note_unfinished-image.result.items None by_taken.printed outcome is none c.requires.tells
     (subst (IsReadBy manner.view size h.image) (sym c.note_unfinished-image.ensures)
-    (subst (λ (xs : List ℕ). IsReadBy manner.view size xs c.in_ok-read.read.items) c.unfinished_in-held.ensures c.in_ok-read.ensures.read))
+    (subst (λ (xs : List ℕ). IsReadBy manner.view size xs c.in_ok-read.read.items) (c.unfinished_in-held.ensures ∙ c.lines_taken_over-whole.ensures) c.in_ok-read.ensures.read))
     c.in-Ok.ensures.ran.1 c.in-Ok.ensures.ran.2 c.in-Ok.ensures.ran.3 c.stored.ensures.kept.1 tt in
     let fault = c.in_err-stored-in-Ok.field-0.0 in
     let spares = spares_at fault c.args.handed.kind (kind_of step) by_stored.has_refused_place old.files by_taken.files by_stored.files name target
@@ -96,7 +96,7 @@ returns-in_ok-stored-in-Ok-clause-ended g c =
     let runs : RunsStep step manner size name old by_stored None outcome =
     step_ran step manner size name old by_stored h c.note_unfinished-image.result.items None by_taken.printed outcome is none c.requires.tells
     (subst (IsReadBy manner.view size h.image) (sym c.note_unfinished-image.ensures)
-    (subst (λ (xs : List ℕ). IsReadBy manner.view size xs c.in_ok-read.read.items) c.unfinished_in-held.ensures c.in_ok-read.ensures.read))
+    (subst (λ (xs : List ℕ). IsReadBy manner.view size xs c.in_ok-read.read.items) (c.unfinished_in-held.ensures ∙ c.lines_taken_over-whole.ensures) c.in_ok-read.ensures.read))
     c.in-Ok.ensures.ran.1 c.in-Ok.ensures.ran.2 c.in-Ok.ensures.ran.3 c.stored.ensures.kept.1 tt in
     let leaves = leaves_at c.args.handed.kind (kind_of step) old.files by_taken.files by_stored.files name target c.as_str.result.now outcome
     c.in-Ok.outcome c.requires.target (search rules) files c.requires.kind c.in-Ok.ensures.ran.4 c.in_ok-stored-in-Ok.ensures.files in
@@ -125,7 +125,7 @@ returns-in-Err-clause-ended g c =
     let runs : RunsStep step manner size name old by_looked (Some fault) outcome =
     step_ran step manner size name old by_looked h c.note_unfinished-image.result.items (Some fault) by_taken.printed outcome is none c.requires.tells
     (subst (IsReadBy manner.view size h.image) (sym c.note_unfinished-image.ensures)
-    (subst (λ (xs : List ℕ). IsReadBy manner.view size xs c.in_ok-read.read.items) c.unfinished_in-held.ensures c.in_ok-read.ensures.read))
+    (subst (λ (xs : List ℕ). IsReadBy manner.view size xs c.in_ok-read.read.items) (c.unfinished_in-held.ensures ∙ c.lines_taken_over-whole.ensures) c.in_ok-read.ensures.read))
     c.in-Err.ensures.ran.1 c.in-Err.ensures.ran.2 c.in-Err.ensures.ran.3 looked.2 (c.stopped.ensures.blamed c.in-Err.ensures.blamed) in
     let files = looked.0 ∙ c.taken.ensures.kept.0 in
     elim c.stopped.ensures.ended [

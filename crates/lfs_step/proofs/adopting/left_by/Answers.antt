@@ -1,19 +1,25 @@
--- A journal that doesn't stay is replaced.
-use Rattle.std.proofs.Common.{◌≡◌, Bool, false, ap, ap₂, sym, ◌∙◌}
-use Rattle.std.specs.Prelude.{if◌then◌else◌}
+-- The new blocks are put, and a journal that doesn't stay is replaced.
+use Rattle.std.proofs.Common.{◌≡◌, Bool, List, ℕ, false, ap, ap₂, sym, ◌∙◌, subst}
+use Rattle.std.specs.Prelude.{Option, if◌then◌else◌}
+use Rattle.lfs_block.specs.Disk.{Disk}
 use Rattle.lfs_journal.specs.Book.{journal_bytes}
-use Rattle.lfs_history.specs.History.{History, fresh_history}
+use Rattle.lfs_history.specs.History.{fresh_history}
 use Rattle.lfs_history.specs.Opening.{journal_of}
+use Rattle.lfs_adopt.specs.Draft.{IsDraft}
+use Rattle.lfs_change.specs.Adopting.{adopted_with}
 use Rattle.lfs_step.specs.Adopting.{journal_stays}
 use Rattle.lfs_step.proofs.adopting.left_by.Goals as goal
+
+pub put_drafted-requires : goal.put_drafted-requires
+put_drafted-requires c =
+    subst (λ (os : List (Option (List ℕ))). IsDraft (record { base = c.args.image.disk; blocks = os })) (sym c.deref.ensures.value) c.requires.draft
 
 pub returns-clause-journal : goal.returns-clause-journal
 returns-clause-journal c =
     let old = c.args.journal.items in
-    let fresh = journal_bytes (journal_of (fresh_history c.args.adoption.session.present)) in
+    let e : Disk = adopted_with c.args.image.disk c.args.adoption in
+    let fresh = journal_bytes (journal_of (fresh_history e)) in
     let goes : journal_stays c.args.adoption.changed.items old ≡ false =
-    ap₂ journal_stays (sym c.deref.ensures.value) (sym c.deref-2.ensures.value) ∙ sym c.journal_stays.ensures ∙ c.if-journal_stays.false in
+    ap₂ journal_stays (sym c.deref-2.ensures.value) (sym c.deref-3.ensures.value) ∙ sym c.journal_stays.ensures ∙ c.if-journal_stays.false in
     c.done.ensures.kept.1
-    ∙ ap journal_bytes c.into_parts-image.ensures.journal
-    ∙ ap (λ (h : History). journal_bytes (journal_of h)) c.requires.1.fresh
-    ∙ sym (ap (λ (t : Bool). if t then old else fresh) goes)
+    ∙ ap (λ (t : Bool). if t then old else fresh) (sym goes)

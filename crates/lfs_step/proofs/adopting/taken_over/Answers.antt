@@ -3,6 +3,7 @@ use Rattle.std.proofs.Common.{◌≡◌, ◌&&◌, not, false, ℕ, List, Option
 use Rattle.lfs_block.specs.Disk.{image_of}
 use Rattle.lfs_request.specs.declared.fault.Fault.{Fault}
 use Rattle.lfs_step.specs.declared.step.Step.TheVariants.{Adopt}
+use Rattle.lfs_change.specs.Adopting.{adopted_with}
 use Rattle.lfs_step.specs.Adopting.{RefusesImageTaken, SendsChanged, drops_changes}
 use Rattle.lfs_step.specs.Outcome.{given}
 use Rattle.lfs_step.proofs.AdoptingLemmas.{over_left, over_refused, over_said, over_unsaid}
@@ -32,7 +33,7 @@ returns-in-Ok-told_adoption-clause-sent g c =
     let told = c.in-Ok-told_adoption.ensures.adopted in
     subst (λ (x : Option Fault). SendsChanged c.args.form (image_of c.args.size c.args.image.items) (image_of c.args.size o.image.items) x old new)
     (sym c.left_by.ensures.fault)
-    (over_said c.args.form c.args.size c.args.image.items o.image.items c.in-Ok.image.disk a.session.present old new is.disk is.size is.bytes
+    (over_said c.args.form c.args.size c.args.image.items o.image.items c.in-Ok.image.disk (adopted_with c.in-Ok.image.disk a) old new is.disk is.size is.bytes
     told.0.adopted c.left_by.ensures.image c.in-Ok-told_adoption.ensures.sent)
 
 pub returns-in-Err-told_adoption-clause-answers : goal.returns-in-Err-told_adoption-clause-answers

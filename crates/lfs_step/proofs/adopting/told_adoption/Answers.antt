@@ -2,6 +2,7 @@
 use Rattle.std.proofs.Common.{◌≡◌, ◌&&◌, not, ℕ, List, Some, ap, sym, ◌∙◌}
 use Rattle.std.proofs.lemmas.Result.{err_from_is_err_and}
 use Rattle.lfs_adopt.specs.Changed.{changed_blocks}
+use Rattle.lfs_change.specs.Adopting.{adopted_with}
 use Rattle.lfs_request.specs.Fault.{blames_output}
 use Rattle.lfs_request.specs.declared.fault.Fault.{Fault}
 use Rattle.lfs_step.specs.Adopting.{drops_changes}
@@ -15,7 +16,7 @@ returns-in_err-may_replace-clause-adopted g c =
     let is = c.in_ok-adoption.ensures.adopted in
     let p = err_from_is_err_and c.from_residual-in_err-may_replace.result c.from_residual-in_err-may_replace.ensures.1 in
     let why = c.in_err-may_replace.ensures in
-    rw (p.1, p.2) (replacing_refused c.args.replaces c.args.image.now.disk a.session.present c.deref.result.now c.args.journal.now _ is.adopted
+    rw (p.1, p.2) (replacing_refused c.args.replaces c.args.image.now.disk (adopted_with c.args.image.now.disk a) c.deref.result.now c.args.journal.now _ is.adopted
     (c.deref.ensures.value ∙ is.changed) why)
 
 pub returns-in_err-may_replace-clause-sent : goal.returns-in_err-may_replace-clause-sent
@@ -41,7 +42,7 @@ pub returns-in_err-sent_complete-clause-adopted : goal.returns-in_err-sent_compl
 returns-in_err-sent_complete-clause-adopted g c =
     let a = c.in_ok-adoption.adoption in
     let p = err_from_is_err_and c.from_residual-in_err-sent_complete.result c.from_residual-in_err-sent_complete.ensures.1 in
-    rw (p.1, p.2) (unwritten_refused c.args.replaces c.args.image.now.disk a.session.present c.args.journal.now _ c.in_ok-adoption.ensures.adopted.adopted
+    rw (p.1, p.2) (unwritten_refused c.args.replaces c.args.image.now.disk (adopted_with c.args.image.now.disk a) c.args.journal.now _ c.in_ok-adoption.ensures.adopted.adopted
     (is_unwritten c.send.result _ c.in_err-sent_complete.ensures).1)
 
 pub returns-in_err-sent_complete-clause-sent : goal.returns-in_err-sent_complete-clause-sent
@@ -51,9 +52,9 @@ returns-in_err-sent_complete-clause-sent g c =
     let is = c.in_ok-adoption.ensures.adopted in
     let p = err_from_is_err_and c.from_residual-in_err-sent_complete.result c.from_residual-in_err-sent_complete.ensures.1 in
     let why = is_unwritten c.send.result _ c.in_err-sent_complete.ensures in
-    let told : c.deref-3.result.now ≡ changed_text c.args.form (changed_blocks d a.session.present) =
+    let told : c.deref-3.result.now ≡ changed_text c.args.form (changed_blocks d (adopted_with c.args.image.now.disk a)) =
     c.deref-3.ensures.value ∙ c.in_ok-text.ensures ∙ ap (changed_text c.args.form) (c.deref-2.ensures.value ∙ is.changed) in
-    rw (p.1, p.2) (unwritten_sent c.args.form d a.session.present d c.deref-3.result.now c.send.result _ (g.S.Sink.sent c.args.out.now)
+    rw (p.1, p.2) (unwritten_sent c.args.form d (adopted_with c.args.image.now.disk a) d c.deref-3.result.now c.send.result _ (g.S.Sink.sent c.args.out.now)
     (g.S.Sink.sent c.send.new.out) is.adopted told c.send.ensures.sent why.0 why.1)
 
 pub returns-in_err-sent_complete-clause-failed : goal.returns-in_err-sent_complete-clause-failed

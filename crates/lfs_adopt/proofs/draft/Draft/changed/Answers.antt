@@ -3,7 +3,8 @@ use Rattle.std.proofs.Common.{◌≡◌, ℕ, ◌+◌, Bool, List, [], ◌∷◌
 use Rattle.std.specs.List.{filter, range_with_len}
 use Rattle.std.proofs.lemmas.List.FromFn.{filter_of_map_range_with_len_more}
 use Rattle.lfs_adopt.specs.Changed.{is_changed}
-use Rattle.lfs_adopt.proofs.changed.changed_blocks.Goals as goal
+use Rattle.lfs_adopt.specs.Draft.{drafted}
+use Rattle.lfs_adopt.proofs.draft.Draft.changed.Goals as goal
 
 as_they_are : (ns : List ℕ) → map (λ n. n) ns ≡ ns
 as_they_are [] = refl
@@ -18,9 +19,9 @@ filtered_more test n =
 
 pub loop-number-preserved : goal.loop-number-preserved
 loop-number-preserved c =
-    let test : ℕ → Bool = is_changed c.args.old.now.disk c.args.new.now.disk in
+    let test : ℕ → Bool = is_changed c.args.self.now.base (drafted c.args.self.now) in
     let n : ℕ = c.loop-number.number in
     c.in_ok-push_if.ensures
-    ∙ ap (λ (ms : List ℕ). ms ++ cond c.is_changed-differs.result (n ∷ []) []) c.loop-number.invariant
-    ∙ ap (λ (t : Bool). filter test (range_with_len 0 n) ++ cond t (n ∷ []) []) c.is_changed-differs.ensures
+    ∙ ap (λ (ms : List ℕ). ms ++ cond c.differs.result (n ∷ []) []) c.loop-number.invariant
+    ∙ ap (λ (t : Bool). filter test (range_with_len 0 n) ++ cond t (n ∷ []) []) c.differs.ensures
     ∙ sym (filtered_more test n)
