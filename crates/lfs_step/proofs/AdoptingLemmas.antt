@@ -3,7 +3,11 @@ use Rattle.std.proofs.Common.{arith, ◌≡◌, ◌&&◌, ℕ, Bool, true, false
 use Rattle.std.proofs.lemmas.Bool.{eqb-true}
 use Rattle.std.specs.Prelude.{if◌then◌else◌, unwrap_or}
 use Rattle.lfs_block.specs.Disk.{Disk, IsDisk, image_of}
+use Rattle.lfs_block.specs.Patch.{ChangeSet}
 use Rattle.lfs_block.proofs.BytesLemmas.{at_bytes, image_of_disk}
+use Rattle.lfs_journal.specs.Book.{book_of}
+use Rattle.lfs_history.specs.History.{fresh_history}
+use Rattle.lfs_history.specs.Opening.{journal_of}
 use Rattle.lfs_host.specs.Send.{Sends, SendsBeginning}
 use Rattle.lfs_adopt.specs.Adopted.{IsAdoptedImage}
 use Rattle.lfs_adopt.specs.Changed.{changed_blocks}
@@ -33,6 +37,12 @@ first_true false b both = cc
 -- where a journal stays no block changes
 pub none_changed : (changed journal : List ℕ) → journal_stays changed journal ≡ true → changed ≡ []
 none_changed changed journal stays = none_there changed (first_true (is_empty changed) (not (is_empty journal)) stays)
+
+-- a journal without changes is that of an image to which nothing was done
+pub no_changes : (e : Disk) (size count : ℕ) (patches : List ChangeSet) → size ≡ e.size → count ≡ e.count → patches ≡ []
+    → book_of size count patches 0 ≡ journal_of (fresh_history e)
+no_changes e size count patches sizes counts none =
+    ap₂ (λ (s n : ℕ). book_of s n patches 0) sizes counts ∙ ap (λ (ps : List ChangeSet). book_of e.size e.count ps 0) none
 
 -- ---- an image that isn't taken over
 
