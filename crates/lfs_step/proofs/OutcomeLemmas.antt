@@ -22,7 +22,7 @@ AnswersBy fault step g outcome =
 
 -- an image isn't refused as bytes are
 no_image : (q : Question) (form : Form) (d : Disk) (journal : List ℕ) (f : _) → RefusesAsked q form d journal (Image f) → ⊥
-no_image (Check version) form d journal f refuses = refuses
+no_image (Check version most) form d journal f refuses = refuses
 no_image (Ls path digests) form d journal f refuses = refuses
 no_image (Blocks sums) form d journal f refuses = refuses
 no_image (Cat path) form d journal f refuses = refuses

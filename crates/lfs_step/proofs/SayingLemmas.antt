@@ -1,35 +1,48 @@
--- What is said of a text that went out, or didn't as a whole.
-use Rattle.std.proofs.Common.{◌≡◌, ℕ, Bool, true, false, List, Option, Result, Ok, Err, IfErr, None, Some, sym, ap, subst}
-use Rattle.std.specs.Prelude.{if◌then◌else◌, unwrap_or}
+-- What is said of a check, whose text went out, or didn't as a whole.
+use Rattle.std.proofs.Common.{◌≡◌, ℕ, Bool, true, false, List, Option, Result, Ok, Err, IfErr, Some, refl, sym, ap, subst}
+use Rattle.std.specs.Prelude.{not, unwrap_or}
 use Rattle.std.specs.Result.{result_err}
 use Rattle.lfs_block.specs.Disk.{Disk}
+use Rattle.lfs_fs.specs.Mounted.{MountedValue, IsMountOf}
+use Rattle.lfs_request.specs.Fault.{blames_output}
 use Rattle.lfs_request.specs.declared.fault.Fault.{Fault}
-use Rattle.lfs_request.specs.declared.fault.Fault.TheVariants.{CannotWrite}
 use Rattle.lfs_host.specs.Send.{Sends}
 use Rattle.lfs_json.specs.declared.form.Form.{Form}
 use Rattle.lfs_request.specs.declared.query.Query.TheVariants.{Check}
-use Rattle.lfs_step.specs.Query.{IsAnswer, RefusesReport, SendsReport}
-use Rattle.lfs_request.specs.Query.{Question}
+use Rattle.lfs_step.specs.Query.{RefusesReport, SendsReport, end_of_check}
+use Rattle.lfs_step.specs.Summary.{check_text, has_longer}
 
--- the end of a text that went out as a whole, or didn't
-abbrev pub EndsAs : Result (Unit {0}) Fault → Bool → Type 0
-EndsAs r complete = result_err r ≡ (if complete then None else Some CannotWrite)
+-- it went out, or a beginning of it
+went_out : (version : ℕ) (most : Option ℕ) (form : Form) (d : Disk) (m : MountedValue) → IsMountOf d m → (complete longer : Bool)
+    → has_longer most m ≡ longer → (old new : Option (List ℕ)) → Sends complete old new (check_text form version most d m)
+    → SendsReport (Check version most) form d (end_of_check complete longer) old new
+went_out version most form d m mounts true true is old new sends = (m, mounts, is, sends)
+went_out version most form d m mounts true false is old new sends = (m, mounts, is, sends)
+went_out version most form d m mounts false longer is old new sends = (check_text form version most d m, (m, mounts, refl), sends)
 
--- standard output is blamed for a text that is the answer
-pub text_refused : (q : Question) (form : Form) (d : Disk) (text : List ℕ) (r : Result (Unit {0}) Fault) (complete : Bool) → EndsAs r complete → IsAnswer q form d text
-    → IfErr r (λ f. RefusesReport q form d f)
-text_refused q form d text (Ok x) complete is answer = tt
-text_refused q form d text (Err f) true is answer = absurd cc
-text_refused q form d text (Err f) false is answer =
-    subst (λ (x : Fault). RefusesReport q form d x) (sym (ap (λ (o : Option Fault). unwrap_or o f) is)) (text, answer)
+pub check_sent : (version : ℕ) (most : Option ℕ) (form : Form) (d : Disk) (m : MountedValue) → IsMountOf d m → (complete longer : Bool)
+    → longer ≡ has_longer most m → (ends : Option Fault) → ends ≡ end_of_check complete longer → (old new : Option (List ℕ))
+    → Sends complete old new (check_text form version most d m) → SendsReport (Check version most) form d ends old new
+check_sent version most form d m mounts complete longer is ends ended old new sends =
+    subst (λ (f : Option Fault). SendsReport (Check version most) form d f old new) (sym ended)
+    (went_out version most form d m mounts complete longer (sym is) old new sends)
 
--- of a summary it went out, or a beginning of it
-summary_went : (version : ℕ) (form : Form) (d : Disk) (text : List ℕ) (complete : Bool) (old new : Option (List ℕ)) → IsAnswer (Check version) form d text → Sends complete old new text
-    → SendsReport (Check version) form d (if complete then None else Some CannotWrite) old new
-summary_went version form d text true old new answer sends = (text, answer, sends)
-summary_went version form d text false old new answer sends = (text, answer, sends)
+-- it ends with a fault where it didn't go out, or a file is longer
+ended_with : (f : Fault) (ends : Option Fault) (P : Fault → Type 0) → Some f ≡ ends → P (unwrap_or ends f) → P f
+ended_with f ends P is holds = subst P (sym (ap (λ (o : Option Fault). unwrap_or o f) is)) holds
 
-pub summary_sent : (version : ℕ) (form : Form) (d : Disk) (text : List ℕ) (r : Result (Unit {0}) Fault) (complete : Bool) (old new : Option (List ℕ)) → EndsAs r complete
-    → IsAnswer (Check version) form d text → Sends complete old new text → SendsReport (Check version) form d (result_err r) old new
-summary_sent version form d text r complete old new is answer sends =
-    subst (λ (f : Option Fault). SendsReport (Check version) form d f old new) (sym is) (summary_went version form d text complete old new answer sends)
+pub check_refused : (version : ℕ) (most : Option ℕ) (form : Form) (d : Disk) (m : MountedValue) → IsMountOf d m → (complete longer : Bool)
+    → longer ≡ has_longer most m → (r : Result (Unit {0}) Fault) → result_err r ≡ end_of_check complete longer
+    → IfErr r (λ f. RefusesReport (Check version most) form d f)
+check_refused version most form d m mounts complete longer is (Ok x) ended = tt
+check_refused version most form d m mounts true false is (Err f) ended = absurd (cc)
+check_refused version most form d m mounts true true is (Err f) ended =
+    ended_with f (end_of_check true true) (RefusesReport (Check version most) form d) ended (m, mounts, sym is)
+check_refused version most form d m mounts false longer is (Err f) ended =
+    ended_with f (end_of_check false longer) (RefusesReport (Check version most) form d) ended (check_text form version most d m, (m, mounts, refl))
+
+-- the sink is blamed where it didn't go out
+pub check_ends : (complete longer : Bool) → not complete ≡ blames_output (end_of_check complete longer)
+check_ends true true = refl
+check_ends true false = refl
+check_ends false longer = refl

@@ -11,7 +11,7 @@ ghost use Rattle.lfs_step.specs.Asking.{RefusesAsked, SendsAsked};
 ghost use Rattle.lfs_step.specs.Listed.{listing_text};
 ghost use Rattle.lfs_step.specs.Comparing.{said_form};
 ghost use Rattle.lfs_step.specs.Outcome.{Answers, SendsText, given};
-ghost use Rattle.lfs_step.specs.Query.{RefusesReport, SendsReport, blocks_text};
+ghost use Rattle.lfs_step.specs.Query.{RefusesReport, SendsReport, blocks_text, end_of_check};
 ghost use Rattle.lfs_request.specs.declared.query.Query.TheVariants.{Blocks, Cat, Check, Ls};
 ghost use Rattle.lfs_step.specs.declared.step.Step.TheVariants.{Ask};
 
@@ -19,7 +19,7 @@ use crate::comparing::compare_bytes;
 use crate::contents::send_file;
 use crate::recounting::recount;
 use crate::sending::{fault_of_listing, sent_complete};
-use crate::summary::summary_text;
+use crate::summary::{check_text, has_longer};
 use lfs_block::Image;
 use lfs_fs::{Mounted, mount};
 use lfs_host::{Sink, send};
@@ -78,7 +78,7 @@ fn report<S: Sink>(
     ensures disk { image.new.disk ≡ image.old.disk }
 {
     match query {
-        Query::Check { version } => say_summary(alloc, form, version, image, out),
+        Query::Check { version, most } => say_check(alloc, form, version, most, image, out),
         Query::Ls { path, digests } => {
             say_listing(alloc, form, digests, image, path, place, out)
         }
@@ -98,25 +98,39 @@ fn said_form(quiet: bool, form: Form) -> Option<Form>
     if quiet { None } else { Some(form) }
 }
 
-/// Says what an image of this disk version holds, in one line. What was mounted isn't given back to the allocator, since the program ends behind its answer:
-/// to give names back one by one takes a tenth of the time of a check.
-fn say_summary<S: Sink>(
+/// Says what an image of this disk version holds, in one line, and which files stand in their entries and are longer than `most` bytes, if
+/// that is asked for. What was mounted isn't given back to the allocator, since the program ends behind its answer: to give names back one
+/// by one takes a tenth of the time of a check.
+fn say_check<S: Sink>(
     alloc: Global,
     form: Form,
     version: u32,
+    most: Option<u32>,
     image: &Image,
     out: &mut S,
 ) -> Result<(), Fault>
     requires { S.failed out.old ≡ false }
-    ensures refused { IfErr result (λ fault. RefusesReport (Check version) form image.now.disk fault) }
-    ensures sent { SendsReport (Check version) form image.now.disk (result_err result) (S.sent out.old) (S.sent out.new) }
+    ensures refused { IfErr result (λ fault. RefusesReport (Check version most) form image.now.disk fault) }
+    ensures sent { SendsReport (Check version most) form image.now.disk (result_err result) (S.sent out.old) (S.sent out.new) }
     ensures failed { S.failed out.new ≡ blames_output (result_err result) }
     ensures kept { S.kept out.new ≡ S.kept out.old }
 {
     let mounted = mount(alloc, image)?;
-    let line = summary_text(alloc, form, version, image, &mounted)?;
+    let text = check_text(alloc, form, version, most, image, &mounted)?;
+    let longer = has_longer(most, &mounted);
     forget(mounted);
-    sent_complete(send(out, &line))
+    check_ended(send(out, &text), longer)
+}
+
+/// How a check ends whose text went out as a whole, or didn't, where a file is longer than is asked, or none is.
+fn check_ended(complete: bool, longer: bool) -> Result<(), Fault>
+    ensures { result_err result ≡ end_of_check complete longer }
+{
+    sent_complete(complete)?;
+    if longer {
+        return Err(Fault::Differ);
+    }
+    Ok(())
 }
 
 /// Says what stands at a path of an image and below, row by row. Where the path is refused the place is left.

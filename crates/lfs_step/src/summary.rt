@@ -1,14 +1,23 @@
 //! What `check` prints.
 
-ghost use Rattle.std.specs.Prelude.{◌≡◌, IfOk, string_bytes};
+ghost use Rattle.std.specs.Prelude.{◌≡◌, ◌++◌, IfOk, OnOk, string_bytes};
 ghost use Rattle.lfs_json.specs.Line.{line_of};
 ghost use Rattle.lfs_json.specs.Summary.{json_of_summary};
-ghost use Rattle.lfs_step.specs.Summary.{counts, summary, summary_of, summary_text, version_line};
+ghost use Rattle.lfs_step.specs.Summary.{check_text, counts, has_longer, inline_longest, longer_if_asked};
+ghost use Rattle.lfs_step.specs.Summary.{summary, summary_of, summary_text, version_line};
 
 use lfs_block::{Blocks, Image};
 use lfs_fs::Mounted;
 use lfs_json::{Form, Summary, append_json_summary};
+use lfs_listing::{append_longer, longest_inline};
 use std::alloc::{AllocError, Global};
+
+/// The length of the longest file of a mounted image that stands in its entry, in bytes; 0 where none does.
+fn inline_longest(mounted: &Mounted) -> usize
+    ensures { result ≡ inline_longest mounted.now }
+{
+    longest_inline(mounted.rows())
+}
 
 /// A mounted image of a disk version in numbers.
 fn summary_of(version: u32, image: &Image, mounted: &Mounted) -> Summary
@@ -22,6 +31,7 @@ fn summary_of(version: u32, image: &Image, mounted: &Mounted) -> Summary
         files: mounted.files(),
         version,
         limits: mounted.limits(),
+        inline_longest: inline_longest(mounted),
     }
 }
 
@@ -64,7 +74,7 @@ fn summary(
     Ok(text)
 }
 
-/// The same as an object of JSON, with the limits.
+/// The same as an object of JSON, with the limits and the longest file that stands in its entry.
 fn json_summary(
     alloc: Global,
     version: u32,
@@ -79,7 +89,7 @@ fn json_summary(
 }
 
 /// The line on a mounted image of a disk version in a form.
-pub fn summary_text(
+fn summary_text(
     alloc: Global,
     form: Form,
     version: u32,
@@ -91,5 +101,49 @@ pub fn summary_text(
     match form {
         Form::Text => summary(alloc, version, image, mounted),
         Form::Json => json_summary(alloc, version, image, mounted),
+    }
+}
+
+/// Adds the lines of the files of a mounted image that stand in their entries and are longer than `most` bytes, if that is asked for, in a
+/// form that has any.
+fn append_if_asked(
+    alloc: Global,
+    form: Form,
+    text: &mut Vec<u8>,
+    most: Option<u32>,
+    mounted: &Mounted,
+) -> Result<(), AllocError>
+    ensures { OnOk result (text.new.items ≡ text.old.items ++ longer_if_asked form most mounted.now) }
+{
+    match (form, most) {
+        (Form::Text, Some(most)) => append_longer(alloc, text, most as usize, mounted.rows()),
+        _ => Ok(()),
+    }
+}
+
+/// What `check` prints of a mounted image of a disk version, in a form: its line, and the lines of the files that stand in their entries and
+/// are longer than `most` bytes, if that is asked for.
+pub(crate) fn check_text(
+    alloc: Global,
+    form: Form,
+    version: u32,
+    most: Option<u32>,
+    image: &Image,
+    mounted: &Mounted,
+) -> Result<Vec<u8>, AllocError>
+    ensures { IfOk result (λ text. text.items ≡ check_text form version most image.now.disk mounted.now) }
+{
+    let mut text = summary_text(alloc, form, version, image, mounted)?;
+    append_if_asked(alloc, form, &mut text, most, mounted)?;
+    Ok(text)
+}
+
+/// Whether a file of a mounted image stands in its entry and is longer than `most` bytes, if that is asked for.
+pub(crate) fn has_longer(most: Option<u32>, mounted: &Mounted) -> bool
+    ensures { result ≡ has_longer most mounted.now }
+{
+    match most {
+        Some(most) => (most as usize) < inline_longest(mounted),
+        None => false,
     }
 }

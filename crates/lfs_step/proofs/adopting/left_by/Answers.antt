@@ -28,5 +28,5 @@ returns-clause-journal c =
     let size = c.size.ensures.value ∙ ap (λ (d : Disk). d.size) put in
     let count = c.count.ensures ∙ ap (λ (d : Disk). d.count) put in
     c.done.ensures.kept.1
-    ∙ ap journal_bytes (c.new-empty.ensures ∙ no_changes e c.size.result c.count.result c.new.result.items size count c.new.ensures.items)
+    ∙ ap journal_bytes (c.new-empty.ensures ∙ no_changes e c.size.result c.count.result c.new-2.result.items size count c.new-2.ensures.items)
     ∙ ap (λ (t : Bool). if t then old else fresh) (sym goes)
