@@ -36,7 +36,7 @@ told_version false size bytes = 131072
 
 -- a question, asked of these bytes: a check tells their version, and another image is read as a device does, if that is asked for
 abbrev pub IsAskedBy : Bool → ℕ → List ℕ → Question → Question → Type 0
-IsAskedBy by_device size image (Check version) new = new ≡ Check (told_version by_device size image)
+IsAskedBy by_device size image (Check version most) new = new ≡ Check (told_version by_device size image) most
 IsAskedBy by_device size image (Diff old other_size quiet) (Diff new new_size is_quiet) =
     (new_size ≡ other_size) × (is_quiet ≡ quiet) × IsReadAs by_device other_size old.items new.items
 IsAskedBy by_device size image (Diff old other_size quiet) _ = ⊥

@@ -61,7 +61,8 @@ fn extract_bytes<H: Host>(
     path: &[u8],
     dir: &str,
 ) -> Result<(), Stop>
-    ensures made { EndsBytes request.now.size bytes.items path.now dir.now (H.known host.old).tree (H.known host.old).made (H.known host.new) (stopped_by result) }
+    ensures made { EndsBytes request.now.size bytes.items path.now dir.now
+        (H.known host.old).tree (H.known host.old).made (H.known host.new) (stopped_by result) }
     ensures kept { KeepsFiles (H.known host.old) (H.known host.new) }
 {
     let size = request.size;

@@ -46,8 +46,9 @@ pub fn asked_by<'a>(
     ensures { IfOk result (IsAskedBy by_device size image.now question.entry) }
 {
     match question {
-        Query::Check { .. } => Ok(Query::Check {
+        Query::Check { most, .. } => Ok(Query::Check {
             version: told_version(by_device, size, image),
+            most,
         }),
         Query::Diff { other, size, quiet } => Ok(Query::Diff {
             other: read_as(alloc, by_device, size, other)?,
