@@ -41,7 +41,10 @@ pub fn report_end<H: Host>(
             report_lines(host, request.image, &context.lines);
             0
         }
-        Err(stop) if stop.fault == Fault::Differ => stop.fault.status(),
+        Err(stop) if stop.fault == Fault::Differ => {
+            report_lines(host, request.image, &context.lines);
+            stop.fault.status()
+        }
         Err(stop) => report_of(host, request, stop, context),
     }
 }
