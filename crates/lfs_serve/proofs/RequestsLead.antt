@@ -166,7 +166,7 @@ asks query form size name old new h denotes same = record {
 
 asked : (query : Question) (form : Form) (size : ℕ) (name : List ℕ) (old new : Files) (h : History) (outcome : Outcome) → FilesDenote size name old h
     → LeavesFiles (kind_of_query query) (Some old) (Some new) name outcome → StepLeads size name (Ask query form) new h
-asked (query.Check version) form size name old new h outcome denotes same = asks (query.Check version) form size name old new h denotes same
+asked (query.Check version most) form size name old new h outcome denotes same = asks (query.Check version most) form size name old new h denotes same
 asked (query.Ls path digests) form size name old new h outcome denotes same = asks (query.Ls path digests) form size name old new h denotes same
 asked (query.Blocks sums) form size name old new h outcome denotes same = asks (query.Blocks sums) form size name old new h denotes same
 asked (query.Cat path) form size name old new h outcome denotes same = asks (query.Cat path) form size name old new h denotes same

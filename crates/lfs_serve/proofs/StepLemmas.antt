@@ -114,14 +114,14 @@ handed_at kind name s h place start same is = subst (λ (at : ℕ). IsHanded kin
 
 asked_kind : (by_device : Bool) (size : ℕ) (image : List ℕ) (old new : Question) → IsAskedBy by_device size image old new
     → kind_of_query new ≡ kind_of_query old
-asked_kind by_device size image (Check version) new is = ap (λ (q : Question). kind_of_query q) is
+asked_kind by_device size image (Check version most) new is = ap (λ (q : Question). kind_of_query q) is
 asked_kind by_device size image (Diff other other_size quiet) (Diff read read_size is_quiet) is = refl
 asked_kind by_device size image (Diff other other_size quiet) _ is = absurd is
 asked_kind by_device size image old new is = ap (λ (q : Question). kind_of_query q) is
 
 hands_kind : (files : Option Files) (query : Query (Bor (List ℕ))) (asked : Question) → HandsQuestion files query asked
     → kind_of_query asked ≡ kind_of_query query
-hands_kind files (Check version) (Check same) is = refl
+hands_kind files (Check version most) (Check same same_most) is = refl
 hands_kind files (Ls path digests) (Ls same_path same_digests) is = refl
 hands_kind files (Blocks sums) (Blocks same) is = refl
 hands_kind files (Cat path) (Cat text) is = refl
@@ -141,7 +141,7 @@ pub question_tells : (by_device : Bool) (size : ℕ) (image : List ℕ) (form : 
     → IsAskedBy by_device size image asked question → TellsVersion (Ask question form) by_device size image
 question_tells by_device size image form (Diff old other_size quiet) (Diff new new_size is_quiet) is = tt
 question_tells by_device size image form (Diff old other_size quiet) _ is = absurd is
-question_tells by_device size image form (Check version) question is =
+question_tells by_device size image form (Check version most) question is =
     subst (λ (q : Question). TellsVersion (Ask q form) by_device size image) (sym is) refl
 question_tells by_device size image form (Ls path digests) question is =
     subst (λ (q : Question). TellsVersion (Ask q form) by_device size image) (sym is) tt

@@ -44,7 +44,7 @@ use Rattle.lfs_serve.specs.Trees.{BecomesChange, IsNotReadFor, IsReadFirst, chan
 
 -- a check tells the disk version of the image with which these bytes begin
 abbrev pub TellsVersion : Step → Bool → ℕ → List ℕ → Type 0
-TellsVersion (step.Ask (Check version) form) by_device size image = version ≡ told_version by_device size image
+TellsVersion (step.Ask (Check version most) form) by_device size image = version ≡ told_version by_device size image
 TellsVersion _ by_device size image = Unit {0}
 
 -- `run` was handed what is known of an image's files, in which nothing was to be refused as later, read in a manner; it answered this
@@ -67,14 +67,15 @@ abbrev pub IsLater : Step → Manner → ℕ → List ℕ → Scene → Fault �
 IsLater step manner size name old fault =
     (h : HandedBytes) × IsHanded (kind_of step) (start_of manner.view) name old h × (refused_by manner (later_read step size h.image) ≡ Some fault)
 
--- a question is answered: nothing is refused, or two images differ
+-- a question is answered: nothing is refused, two images differ, or a file in its entry is longer than is asked
 abbrev pub is_answered : Option Fault → Bool
 is_answered None = true
 is_answered (Some Differ) = true
 is_answered (Some fault) = false
 
--- why a step wasn't done: `run` refused it, or said of two images that they differ, which is handed on; a commit of a later version was
--- refused, or memory was wanting to read the image; or the host refused something behind that
+-- why a step wasn't done: `run` refused it, or said of two images that they differ, or which files in their entries are longer than is
+-- asked, which is handed on; a commit of a later version was refused, or memory was wanting to read the image; or the host refused
+-- something behind that
 abbrev pub StopsStep : Step → Manner → ℕ → List ℕ → Scene → Scene → Fault → Type 0
 StopsStep step manner size name old new fault =
     ((outcome : Outcome) × RunsStep step manner size name old new (Some fault) outcome × (new.files ≡ old.files)

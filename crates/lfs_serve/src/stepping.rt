@@ -126,7 +126,7 @@ fn handed_on<H: Host>(host: &mut H, kind: StepKind) -> Result<(), Fault>
     }
 }
 
-/// Why a step on an image of this name ended early: what differs of two images is handed on.
+/// Why a step on an image of this name ended early: what differs of two images, or which files are longer than is asked, is handed on.
 fn stopped<H: Host>(
     alloc: Global,
     host: &mut H,

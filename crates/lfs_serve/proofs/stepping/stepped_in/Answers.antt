@@ -74,8 +74,8 @@ returns-in_err-stored-in-Ok-clause-ended g c =
     c.in_err-stored-in-Ok.ensures.files in
     ends_behind step manner size name old by_stored _ fault outcome None refl (search rules) c.in_err-stored-in-Ok.ensures.refused runs spares
 
-pub returns-in_ok-stored-in-Ok-clause-ended : goal.returns-in_ok-stored-in-Ok-clause-ended
-returns-in_ok-stored-in-Ok-clause-ended g c =
+pub returns-in-Ok-clause-ended : goal.returns-in-Ok-clause-ended
+returns-in-Ok-clause-ended g c =
     let step = c.args.step in
     let manner = c.args.manner in
     let size = c.args.request.now.size in
@@ -103,8 +103,8 @@ returns-in_ok-stored-in-Ok-clause-ended g c =
     let flushed = subst (λ (kind : StepKind). HandsOn kind by_stored) c.requires.kind c.in_ok-stored-in-Ok.ensures.flushed in
     (outcome, runs, leaves, flushed)
 
-pub returns-in-Err-clause-ended : goal.returns-in-Err-clause-ended
-returns-in-Err-clause-ended g c =
+pub returns-clause-ended : goal.returns-clause-ended
+returns-clause-ended g c =
     let step = c.args.step in
     let manner = c.args.manner in
     let size = c.args.request.now.size in
@@ -143,14 +143,14 @@ returns-in_err-stored-in-Ok-clause-typed g c = c.stored.ensures.kept.0 ∙ c.tak
 pub returns-in_err-stored-in-Ok-clause-made : goal.returns-in_err-stored-in-Ok-clause-made
 returns-in_err-stored-in-Ok-clause-made g c = c.stored.ensures.kept.2.0 ∙ c.taken.ensures.kept.2.0
 
-pub returns-in_ok-stored-in-Ok-clause-typed : goal.returns-in_ok-stored-in-Ok-clause-typed
-returns-in_ok-stored-in-Ok-clause-typed g c = c.stored.ensures.kept.0 ∙ c.taken.ensures.kept.1
+pub returns-in-Ok-clause-typed : goal.returns-in-Ok-clause-typed
+returns-in-Ok-clause-typed g c = c.stored.ensures.kept.0 ∙ c.taken.ensures.kept.1
 
-pub returns-in_ok-stored-in-Ok-clause-made : goal.returns-in_ok-stored-in-Ok-clause-made
-returns-in_ok-stored-in-Ok-clause-made g c = c.stored.ensures.kept.2.0 ∙ c.taken.ensures.kept.2.0
+pub returns-in-Ok-clause-made : goal.returns-in-Ok-clause-made
+returns-in-Ok-clause-made g c = c.stored.ensures.kept.2.0 ∙ c.taken.ensures.kept.2.0
 
-pub returns-in-Err-clause-typed : goal.returns-in-Err-clause-typed
-returns-in-Err-clause-typed g c = c.stopped.ensures.kept.0.1 ∙ c.taken.ensures.kept.1
+pub returns-clause-typed : goal.returns-clause-typed
+returns-clause-typed g c = c.stopped.ensures.kept.0.1 ∙ c.taken.ensures.kept.1
 
-pub returns-in-Err-clause-made : goal.returns-in-Err-clause-made
-returns-in-Err-clause-made g c = c.stopped.ensures.kept.2 ∙ c.taken.ensures.kept.2.0
+pub returns-clause-made : goal.returns-clause-made
+returns-clause-made g c = c.stopped.ensures.kept.2 ∙ c.taken.ensures.kept.2.0
