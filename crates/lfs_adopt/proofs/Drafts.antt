@@ -204,7 +204,7 @@ one_more k (o ∷ os) zero d below = ap (λ (m : ℕ). put_new m o d) (let at : 
 one_more k (o ∷ os) (suc n) d below =
     one_more (k + 1) os n (put_new k o d) (omega (arith, below))
     ∙ ap (λ (m : ℕ). put_new m (get_or os n None) (put_from (k + 1) (take n os) (put_new k o d)))
-      (let at : k + 1 + n ≡ k + suc n = omega arith in at)
+    (let at : k + 1 + n ≡ k + suc n = omega arith in at)
 
 pub next_put : (f : Drafted) (n : ℕ) (o : Option (List ℕ)) → n < length f.blocks → get_or f.blocks n None ≡ o
     → put_from 0 (take (n + 1) f.blocks) f.base ≡ put_new n o (put_from 0 (take n f.blocks) f.base)

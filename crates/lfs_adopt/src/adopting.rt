@@ -36,12 +36,7 @@ fn tidied_draft<'a>(alloc: Global, image: &'a Image) -> Result<(Draft<'a>, Ended
 
 /// Takes these bytes for a block of a draft, which stays as it is if it has them already. Memory that is refused changes nothing. Takes
 /// memory.
-fn take_block(
-    alloc: Global,
-    draft: &mut Draft,
-    number: u32,
-    block: &[u8],
-) -> Result<(), AllocError>
+fn take_block(alloc: Global, draft: &mut Draft, number: u32, block: &[u8]) -> Result<(), AllocError>
     requires within { number < (drafted draft.old).count }
     requires complete { length block.now ≡ (drafted draft.old).size }
     ensures base { draft.new.base ≡ draft.old.base }

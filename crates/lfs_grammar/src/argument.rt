@@ -339,7 +339,7 @@ static INLINE_MAX: ArgumentRow = ArgumentRow {
 /// The length from which on files that stand in their entries are listed.
 static INLINE_LONGER: ArgumentRow = ArgumentRow {
     id: "inline-max",
-    form: Form::Number("BYTES", 0, 2_147_483_647),
+    form: Form::Number("N", 0, 2_147_483_647),
     help: "List the files that stand in their entries and are longer than this, in bytes; status 1 if there are some",
 };
 

@@ -129,7 +129,11 @@ fn block_for<B: Blocks>(
 /// Lowers a pair: it holds what version 2.1 reads of it then. A pair of which version 2.0 reads that already stays as it is. In another one
 /// the block that version 2.1 takes for the live one keeps its place and its revision, and says all in one commit; the one beside it is
 /// erased, unless it says nothing. The superblock states 2.0 in the place of 2.1. If memory is refused, the live block may be written. Takes memory.
-pub fn lower_pair<B: Rewrite>(alloc: Global, image: &mut B, pair: (u32, u32)) -> Result<(), AllocError>
+pub fn lower_pair<B: Rewrite>(
+    alloc: Global,
+    image: &mut B,
+    pair: (u32, u32),
+) -> Result<(), AllocError>
     requires apart { pair.0 ≢ pair.1 }
     requires first { pair.0 < (B.disk image.old).count }
     requires second { pair.1 < (B.disk image.old).count }

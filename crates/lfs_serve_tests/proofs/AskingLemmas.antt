@@ -47,7 +47,7 @@ all_left kind old new name o (inr asks) leaves = subst (λ (k : StepKind). Leave
 
 -- what asks is of one of two kinds
 asks_of : (q : Question) (form : Form) → (kind_of (Ask q form) ≡ Asks) ⊎ (kind_of (Ask q form) ≡ Recounts)
-asks_of (query.Check version) form = inl refl
+asks_of (query.Check version most) form = inl refl
 asks_of (query.Ls path digests) form = inl refl
 asks_of (query.Blocks sums) form = inl refl
 asks_of (query.Cat path) form = inl refl
