@@ -28,7 +28,7 @@ abbrev pub IsNewBlock : ℕ → Option (List ℕ) → Type 0
 IsNewBlock size None = Unit {0}
 IsNewBlock size (Some bytes) = (length bytes ≡ size) × IsBytes bytes
 
--- there is a place for each block of the disk
+-- there is a place for each block of the disk, and each new block is of its size
 pub record IsDraft (f : Drafted) : Type 0 where
   pub disk : IsDisk f.base
   pub len : length f.blocks ≡ f.base.count

@@ -45,7 +45,8 @@ fault_number Differ = 0
 abbrev pub is_in_range : ℕ → ℕ → ℕ → Bool
 is_in_range first last number = nat_le first number && nat_le number last
 
--- 1: a refused command, images that differ, or a file in its entry that is longer than asked; 2: usage; 3: a refused image or journal; 4: memory, or what the host refused
+-- 1: a refused command, images that differ, or a file in its entry that is longer than asked; 2: usage; 3: a refused image or journal;
+-- 4: memory, or what the host refused
 abbrev pub status_of_number : ℕ → ℕ
 status_of_number number =
     if number == 0 || is_in_range 30 43 number || number == 46 || is_in_range 53 56 number then 1
