@@ -34,6 +34,8 @@ set(CMAKE_FIND_ROOT_PATH /nowhere)
 set(CMAKE_FIND_ROOT_PATH_MODE_PROGRAM NEVER)
 set(CMAKE_FIND_ROOT_PATH_MODE_PACKAGE ONLY)
 """
+# What is said of a semicolon.
+CUT = "has a semicolon, which stands between words in CMake"
 # Calls that are refused, and what is said of them.
 REFUSED = {
     "lfsed_image(a OUTPUT a.img COUNT 8)": "lfsed_image(a): FOLDER has to be said",
@@ -42,6 +44,9 @@ REFUSED = {
     "lfsed_image(a FOLDER fw OUTPUT a.img COUNT 8 LEAST)": "lfsed_image(a): just one of COUNT, SIZE and LEAST",
     "lfsed_image(a FOLDER fw OUTPUT a.img COUNT 8 SISE 4)": "lfsed_image(a): words that it doesn't take: SISE;4",
     "lfsed_image(a FOLDER fw OUTPUT a.img LEAST BLOCK)": "lfsed_image(a): no value stands behind BLOCK",
+    'lfsed_image(a FOLDER "f;w" OUTPUT a.img COUNT 8)': f"lfsed_image(a): FOLDER {CUT}: f;w",
+    "lfsed_image(a FOLDER fw OUTPUT x\\;y/a.img COUNT 8)": f"lfsed_image(a): OUTPUT {CUT}: x;y/a.img",
+    'lfsed_image(a FOLDER fw OUTPUT a.img COUNT 8 CHANGES "c;")': f"lfsed_image(a): CHANGES {CUT}: c;",
     "find_package(lfsed 99 REQUIRED)": "lfsed-config.cmake, version: ",
 }
 

@@ -1,8 +1,10 @@
 #!/usr/bin/env python3
 """Calls share/lfsed/mklittlefs with the words of builds for PlatformIO and Arduino, and compares what it makes with what lfsed does; tries
-what it leaves out, ignores and refuses."""
+what it leaves out, ignores and refuses, what it copies, and what an interrupted run leaves."""
 import os
 import pathlib
+import shutil
+import signal
 import subprocess
 import sys
 import tempfile
@@ -19,6 +21,9 @@ CALLS = [
     ("-c data -p 2048 -b 8192 -s 0x40000 a.img", "--block 8192 --size 0x40000 --inline-max 2048"),
     ("-c data a.img", "--block 4096 --size 65536"),
     ("-d 5 a.img -b 512 -c data -s 64k", "--block 512 --size 64k"),
+    ("-c data -b 0512 a.img", "--block 512 --size 65536"),
+    ("-c data -b +04096 -p 0256 a.img", "--block 4096 --size 65536 --inline-max 256"),
+    ("-c -d a.img", "--block 4096 --size 65536"),
 ]
 # Words that are refused, and what is said of them.
 REFUSED = [
@@ -29,6 +34,8 @@ REFUSED = [
     ("-c data a.img -s", "no value stands behind -s"),
     ("-T list -c data a.img", "-T isn't taken"),
     ("-c none a.img", "none: no folder is there"),
+    ("-c -s 64k data a.img", "no DIR stands behind -c, but -s; a folder of that name is ./-s"),
+    ("-u -b data a.img", "no DIR stands behind -u, but -b; a folder of that name is ./-b"),
 ]
 
 
@@ -40,11 +47,13 @@ class Room:
         (place / "data/www").mkdir(parents=True)
         (place / "data/config").write_text("wifi=on\n")
         (place / "data/www/two words").write_text("hello" * 60)
+        shutil.copytree(place / "data", place / "-d")
+        (place / "copies").mkdir()
 
     def run(self, program, words, **env):
-        """Runs a program; answers its status, what it prints and what it complains."""
+        """Runs a program, which copies into the folder `copies`; answers its status, what it prints and what it complains."""
         command = [program, *(words.split(" ") if isinstance(words, str) else words)]
-        env = dict(os.environ, **env)
+        env = {**os.environ, "TMPDIR": str(self.place / "copies"), **env}
         ended = subprocess.run([word for word in command if word], cwd=self.place, capture_output=True, text=True, check=False, env=env)
         return ended.returncode, ended.stdout, ended.stderr
 
@@ -65,10 +74,13 @@ def creates(room):
         said = room.makes(words, as_lfsed).splitlines()
         block = int(as_lfsed.split(" ")[1])
         most = int(as_lfsed.partition("--inline-max ")[2] or 1_022)
-        ignored = [f"{SAID}ignored: {' '.join(pair)}" for pair in zip(words.split(), words.split()[1:]) if pair[0] == "-d"]
+        ignored = [f"{SAID}ignored: -d 5"] if words.startswith("-d 5") else []
         room.counts.check(f"{words}: said", said == [*ignored, SAID + NEEDED.format(block, 32, min(most, block // 8, 1_022))], said)
     said = room.makes("-c data a.img", "--size 65536", 64, LFSED_NAME_MAX="64")
     room.counts.check("LFSED_NAME_MAX", "name_max 64" in said, said)
+    (room.place / "link.img").symlink_to("a.img")
+    ended = room.run(SCRIPT, "-c data link.img")
+    room.counts.check("IMAGE is a link", ended[0] == 0 and not [*room.place.glob("[al]*.lfsj")], ended)
 
 
 def unpacks_and_lists(room):
@@ -77,12 +89,70 @@ def unpacks_and_lists(room):
     (room.place / "there").mkdir()
     (room.place / "there/kept").write_text("kept")
     (room.place / "there/config").write_text("old")
+    os.link(room.place / "there/config", room.place / "other name")
     for folder, more in ("new", set()), ("there", {"kept"}):
         ended = room.run(SCRIPT, f"-u {folder} a.img")
         found = {str(path.relative_to(room.place / folder)) for path in (room.place / folder).rglob("*")}
         room.counts.check(f"-u {folder}", ended == (0, "", "") and found == {"config", "www", "www/two words"} | more, (ended, found))
         room.counts.check(f"-u {folder}: contents", (room.place / folder / "config").read_text() == "wifi=on\n")
+    room.counts.check("-u: a file of two names", (room.place / "other name").read_text() == "old")
     room.counts.check("-l", room.run(SCRIPT, "-l a.img") == room.run(PROGRAM, "ls a.img"))
+
+
+def writes_through_no_link(room):
+    """Links in a folder stop what is put into it, before anything is written; one to the folder itself doesn't."""
+    room.run(SCRIPT, "-c data a.img")
+    (room.place / "away").mkdir()
+    for name, to in ("config", "away/file"), ("www", "away"), ("www/two words", "away/nowhere"):
+        folder = room.place / f"to {name.replace('/', ' ')}"
+        (folder / name).parent.mkdir(parents=True)
+        (room.place / "away/file").write_text("mine")
+        (folder / name).symlink_to(room.place / to)
+        before = sorted(folder.rglob("*"))
+        status, _, said = room.run(SCRIPT, ["-u", folder.name, "a.img"])
+        wanted = f"{SAID}{folder.name}: links are in the way, and nothing is written: ./{name} \n"
+        room.counts.check(f"-u, a link {name}", (status, said) == (1, wanted), (status, said))
+        left = (room.place / "away/file").read_text(), [path.name for path in (room.place / "away").iterdir()], sorted(folder.rglob("*"))
+        room.counts.check(f"-u, a link {name}: left", left == ("mine", ["file"], before), left)
+    (room.place / "in").symlink_to("away")
+    ended = room.run(SCRIPT, "-u in a.img")
+    room.counts.check("-u, DIR is a link", ended == (0, "", "") and (room.place / "away/config").exists(), ended)
+
+
+def copies(room):
+    """What is packed is copied only where links are followed or something is left out, and no copy is left, whatever rights it has."""
+    (room.place / "data/www").chmod(0o555)
+    ended = room.run(SCRIPT, "-c data a.img", TMPDIR="/nowhere")
+    room.counts.check("nothing is copied", ended[0] == 0, ended)
+    (room.place / "data/link").symlink_to("www")
+    ended = room.run(SCRIPT, "-c data a.img")
+    room.counts.check("rights of a copy", ended[0] == 0, ended)
+    room.run(SCRIPT, "-u new a.img")
+    left = [*(room.place / "copies").iterdir()]
+    room.counts.check("no copy is left", not left, left)
+    (room.place / "data/www").chmod(0o755)
+
+
+def is_interrupted(room):
+    """A run that a signal ends leaves no copy."""
+    copies, seen, script = room.place / "copies", room.place / "seen", room.place / "share/lfsed/mklittlefs"
+    (room.place / "data/link").symlink_to("www")
+    (room.place / "bin").mkdir()
+    script.parent.mkdir(parents=True)
+    script.write_bytes(SCRIPT.read_bytes())
+    for number in signal.SIGHUP, signal.SIGINT, signal.SIGTERM:
+        # In place of lfsed, what sends the signal to all that this run has started.
+        (room.place / "bin/lfsed").write_text(f"#!/bin/sh\nls '{copies}' > '{seen}'\nkill -{int(number)} 0\nsleep 60\n")
+        (room.place / "bin/lfsed").chmod(0o755)
+
+        def heed(number=number):
+            """Undoes that a run in the background is deaf to some signals."""
+            signal.signal(number, signal.SIG_DFL)
+        ended = subprocess.run(
+            ["sh", script, "-c", "data", "a.img"], cwd=room.place, env=dict(os.environ, TMPDIR=str(copies)), capture_output=True,
+            check=False, start_new_session=True, preexec_fn=heed)
+        found = ended.returncode, bool(seen.read_text()), [*copies.iterdir()]
+        room.counts.check(number.name, found == (128 + number, True, []), found)
 
 
 def leaves_out(room):
@@ -132,10 +202,9 @@ def is_found_elsewhere(room):
 def main():
     subprocess.run([HOME / "bin/lfsed", "--help"], stdout=subprocess.DEVNULL, check=True)
     counts = Counts()
-    with tempfile.TemporaryDirectory() as name:
-        room = Room(counts, pathlib.Path(name))
-        for scene in creates, unpacks_and_lists, refuses, is_found_elsewhere, leaves_out:
-            scene(room)
+    for scene in creates, unpacks_and_lists, writes_through_no_link, refuses, is_found_elsewhere, leaves_out, copies, is_interrupted:
+        with tempfile.TemporaryDirectory() as name:
+            scene(Room(counts, pathlib.Path(name)))
     return counts.end()
 
 

@@ -1,10 +1,12 @@
 #!/usr/bin/env python3
-"""Tries the module for Python: the examples in its doc strings, faults of each kind, batches that aren't carried out, and 10,000 random
-paths, names and contents, which have to come back as they went in. Its files are read as Python 3.9 reads them, and judged by mypy where
-that is there."""
+"""Tries the module for Python: the examples in its doc strings, faults of each kind, batches that aren't carried out or that threads share,
+and 10,000 random paths, names and contents, which have to come back as they went in. Its files are read as Python 3.9 reads them, and
+judged by mypy where that is there."""
 import ast
+import concurrent.futures
 import contextlib
 import doctest
+import functools
 import hashlib
 import importlib
 import os
@@ -15,6 +17,7 @@ import shutil
 import subprocess
 import sys
 import tempfile
+import unittest.mock
 
 from support.counts import Counts
 from support.folder import HOME, PROGRAM
@@ -34,6 +37,8 @@ SIZES = 0, 1, 60, 64, 65, 500, 512, 513, 3_000
 # How many images are made by batches, how many entries each has, and how many one has that is made change by change.
 BATCHES, ENTRIES, SINGLE = 11, 900, 100
 READ = 20
+# How many files threads put by one batch.
+SHARED = 600
 
 
 def name(chance, letters):
@@ -201,6 +206,68 @@ def broken_off(counts):
     raises_value(counts, "an ended batch", "within its `with` block", lambda: batch.mkdir("/b"))
 
 
+def is_shared(counts):
+    """Threads put files by one batch: each path gets its own contents."""
+    image = lfsed.format("shared.img", block=1_024, count=1_000)
+    wanted = {f"/{number}": f"{number} ".encode() * (number % 40) for number in range(SHARED)}
+    with image.batch() as batch, concurrent.futures.ThreadPoolExecutor(16) as threads:
+        for _ in threads.map(batch.write, wanted.keys(), wanted.values()):
+            pass
+    image.extract("shared")
+    tree = {path: (held, {}) for path, held in wanted.items()}
+    are_held(counts, "threads", tree, lambda path: pathlib.Path(f"shared{path}").read_bytes())
+
+
+def is_entered_once(counts):
+    """A batch is entered once: not within its block, which does nothing then, and not behind it."""
+    image = lfsed.format("once.img", block=512, count=16)
+    said = "a batch is entered once"
+    with contextlib.suppress(ValueError):
+        with image.batch() as batch:
+            batch.mkdir("/a")
+            raises_value(counts, "a batch in itself", said, batch.__enter__)
+            with batch:
+                batch.mkdir("/b")
+    counts.check("a batch in itself: nothing is done", [row.path for row in image.rows()] == ["/"])
+    with image.batch() as other:
+        other.mkdir("/c")
+    raises_value(counts, "a batch again", said, other.__enter__)
+    counts.check("a batch again: it's done once", [row.path for row in image.rows()] == ["/", "/c"])
+
+
+def putting(image, act):
+    """A batch that puts two files, between which something happens."""
+    with image.batch() as batch:
+        batch.write("/a b", b"hello")
+        act()
+        batch.write("/c", bytes(4_000))
+
+
+def names_no_file_of_its_own(counts):
+    """What is told of a batch has the paths of the image, and not the files that the batch makes."""
+    image = lfsed.format("told.img", block=512, count=8)
+    room = pathlib.Path("room of\\batches").resolve()
+    room.mkdir()
+    with unittest.mock.patch.object(tempfile, "tempdir", str(room)):
+        full = ["need 8 free 6", "standard input: line 2: put /c"]
+        raises(counts, "a batch without space", lfsed.Refusal, 43, "NoSpace", full, lambda: putting(image, lambda: None))
+        gone = ["/a b: No such file or directory (os error 2)", "standard input: line 1: put /a\\x20b"]
+        less = functools.partial(putting, image, lambda: next(room.rglob("0")).unlink())
+        raises(counts, "a batch less a file", lfsed.HostFault, 60, "CannotRead", gone, less)
+        refused(counts, "/c", lambda: putting(image, lambda: shutil.rmtree(next(room.iterdir()))))
+        room.rmdir()
+        refused(counts, "told.img", image.batch().__enter__)
+
+
+def refused(counts, path, act):
+    """The system refuses something, which is told of a path."""
+    try:
+        act()
+        counts.check(f"refused of {path}", False)
+    except OSError as why:
+        counts.check(f"refused of {path}", why.filename == path and "room of" not in str(why), why)
+
+
 def other_calls(counts):
     """What the examples don't show."""
     image = lfsed.format("c.img", block=512, count=64, name_max=20)
@@ -312,6 +379,9 @@ def main():
         examples(counts)
         faults(counts)
         broken_off(counts)
+        is_shared(counts)
+        is_entered_once(counts)
+        names_no_file_of_its_own(counts)
         other_calls(counts)
         bounds(counts)
         views(counts)

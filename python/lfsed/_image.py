@@ -1,11 +1,13 @@
 """Images and their changes."""
 from __future__ import annotations
 
+import contextlib
 import os
 import pathlib
 import tempfile
+import threading
 from types import TracebackType
-from typing import Dict, List, Optional, Type, Union
+from typing import Dict, Iterator, List, Optional, Type, Union
 
 from . import _faults, _texts
 from ._program import File, ImagePath, Word, bytes_of, is_taken, run
@@ -233,30 +235,58 @@ class Image:
         self._change("sync", folder, path, inline_max=self.inline_max)
 
 
+@contextlib.contextmanager
+def _told_of(path: str) -> Iterator[None]:
+    """What the system refuses within is told of this path."""
+    try:
+        yield
+    except OSError as why:
+        raise OSError(why.errno, why.strerror, path) from None
+
+
 class Batch:
-    """Changes of an image that are gathered, and made in one run where the `with` block ends."""
+    """Changes of an image that are gathered, and made in one run where the `with` block ends. A batch is entered once. Within its block
+    threads may share it: the changes have the order of the calls."""
 
     def __init__(self, image: Image, one: bool):
         self._image, self._one = image, one
+        self._lock, self._is_entered = threading.Lock(), False
         self._lines: List[str] = []
+        # The paths that are put, each by the number that names the file with its contents.
+        self._paths: List[str] = []
         self._room: Optional[tempfile.TemporaryDirectory[str]] = None
 
     def __enter__(self) -> Batch:
-        self._lines, self._room = [], tempfile.TemporaryDirectory(prefix="lfsed-")
+        with self._lock:
+            if self._is_entered:
+                raise ValueError("a batch is entered once: the image's batch() begins another one")
+            with _told_of(os.fspath(self._image.path)):
+                self._room = tempfile.TemporaryDirectory(prefix="lfsed-")
+            self._is_entered = True
         return self
 
     def __exit__(self, kind: Optional[Type[BaseException]], value: Optional[BaseException], trace: Optional[TracebackType]) -> None:
-        room, self._room = self._room, None
+        with self._lock:
+            room, self._room = self._room, None
         assert room is not None
         with room:
             if kind is None:
-                script = "".join(f"{line}\n" for line in self._lines)
-                self._image._change("batch", given=script.encode("ascii"), one=self._one, inline_max=self._image.inline_max)
+                self._carry_out(room.name)
+
+    def _carry_out(self, folder: str) -> None:
+        """Makes the changes, whose contents are in a folder."""
+        script = "".join(f"{line}\n" for line in self._lines)
+        try:
+            self._image._change("batch", given=script.encode("ascii"), one=self._one, inline_max=self._image.inline_max)
+        except _faults.Fault as fault:
+            lines = [_texts.with_paths(line, folder, self._paths) for line in fault.lines]
+            raise _faults.fault(fault.status, fault.number, fault.name, lines) from None
 
     def _add(self, step: str, *words: Word) -> None:
         """Adds a step."""
-        self._folder()
-        self._lines.append(" ".join([step, *(_texts.word_of_script(bytes_of(word)) for word in words)]))
+        with self._lock:
+            self._folder()
+            self._lines.append(_texts.line_of_script(step, map(bytes_of, words)))
 
     def _folder(self) -> pathlib.Path:
         """The folder of contents that are to be put."""
@@ -266,9 +296,13 @@ class Batch:
 
     def write(self, path: ImagePath, contents: bytes) -> None:
         """Puts a file, in place of one of this path."""
-        held = self._folder() / str(len(self._lines))
-        held.write_bytes(contents)
-        self._add("put", path, held)
+        word = bytes_of(path)
+        with self._lock:
+            held, told = self._folder() / str(len(self._paths)), word.decode("utf-8", "surrogateescape")
+            self._paths.append(told)
+            with _told_of(told):
+                held.write_bytes(contents)
+            self._lines.append(_texts.line_of_script("put", [word, bytes_of(held)]))
 
     def mkdir(self, path: ImagePath) -> None:
         """Makes a directory."""

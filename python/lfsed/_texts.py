@@ -2,7 +2,9 @@
 from __future__ import annotations
 
 import json
-from typing import Any, Dict, List, Optional, Tuple
+import os
+import re
+from typing import Any, Dict, Iterable, List, Optional, Tuple
 
 from ._records import Change, Difference, Limits, Row, Summary
 
@@ -12,6 +14,19 @@ MARKS = {"removed": "-", "added": "+", "contents": "~", "limits": "~"}
 def word_of_script(word: bytes) -> str:
     """A word as a script spells it."""
     return "".join(chr(byte) if 0x21 <= byte <= 0x7E and byte != 0x5C else f"\\x{byte:02x}" for byte in word)
+
+
+def line_of_script(step: str, words: Iterable[bytes]) -> str:
+    """A step as a line of a script."""
+    return " ".join([step, *map(word_of_script, words)])
+
+
+def with_paths(line: str, folder: str, paths: List[str]) -> str:
+    """A line of a fault of a script. Files in a folder are put at these paths, by their numbers: the line that puts one loses its name,
+    and elsewhere the path stands for it."""
+    spelled = word_of_script(os.fsencode(folder))
+    line = re.sub(rf" {re.escape(spelled)}/[0-9]+\Z", "", line)
+    return re.sub(rf"{re.escape(folder)}/([0-9]+)", lambda found: paths[int(found[1])], line)
 
 
 def objects(printed: bytes) -> List[Dict[str, Any]]:

@@ -8,8 +8,8 @@
 # made again then. With CHANGES the steps of a script are carried out on the packed image, as `lfsed batch` does it.
 #
 # FOLDER, CHANGES and the files that the script names are looked for from the folder of the CMakeLists.txt on, OUTPUT from its build
-# folder on. The other words are those of `lfsed pack`; DEPENDS names targets that are built first, and ALL makes NAME a part of
-# every build. The target's property LFSED_IMAGE is the image's whole name.
+# folder on. FOLDER, OUTPUT and CHANGES have no semicolon. The other words are those of `lfsed pack`; DEPENDS names targets that are
+# built first, and ALL makes NAME a part of every build. The target's property LFSED_IMAGE is the image's whole name.
 #
 # Where a toolchain looks for packages in its own root alone, find_package(lfsed CONFIG NO_CMAKE_FIND_ROOT_PATH) finds it.
 
@@ -38,6 +38,11 @@ function(_lfsed_judge name)
   foreach(word FOLDER OUTPUT)
     if(NOT IMAGE_${word})
       message(FATAL_ERROR "lfsed_image(${name}): ${word} has to be said")
+    endif()
+  endforeach()
+  foreach(word FOLDER OUTPUT CHANGES)
+    if("${IMAGE_${word}}" MATCHES ";")
+      message(FATAL_ERROR "lfsed_image(${name}): ${word} has a semicolon, which stands between words in CMake: ${IMAGE_${word}}")
     endif()
   endforeach()
 endfunction()
