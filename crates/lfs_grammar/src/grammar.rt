@@ -13,8 +13,7 @@ use std::alloc::{AllocError, Global};
 const VERSION: &str = "0.2.0";
 
 /// What the statuses mean, and the word that stands in front of a command.
-const STATUSES: &str =
-    "Status: 0 done; 1 the change is refused, images differ, or files in entries
+const STATUSES: &str = "Status: 0 done; 1 the change is refused, images differ, or files in entries
 are too long; 2 the command line is refused; 3 the image or its journal is
 refused; 4 out of memory, or a file is not read or written.
 
