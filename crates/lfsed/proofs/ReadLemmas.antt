@@ -1,5 +1,5 @@
 -- How words end that are read as they are, and with `--` before the first stray one.
-use Rattle.std.proofs.Common.{◌≡◌, ◌∙◌, ℕ, List, Option, Some, None, IfSome, IsNone, inl, inr, refl, sym, ap, subst, true}
+use Rattle.std.proofs.Common.{◌≡◌, ◌∙◌, ℕ, List, Option, Some, None, IfSome, IsNone, MatchOption, inl, inr, refl, sym, ap, subst, true}
 use Rattle.clap.specs.Words.{HasKind, IsAmong, Kinds, Row, Text, fault_of, kind_of, subcommand_rows_of}
 use Rattle.clap.specs.declared.error.Error.{Error}
 use Rattle.clap.specs.declared.error.kind.ErrorKind.TheVariants.{OutOfMemory}
@@ -32,8 +32,8 @@ ends_as_dashed words read m old new status refused is matched plain ends =
     )
 
 -- a look at the file that is named, or at none
-pub looks : (says : AutoFile → Type 0) (file : Option AutoFile) (old new : Scene) (size : ℕ) → IfSome file says
+pub looks : (says : AutoFile → Type 0) (none : ℕ) (file : Option AutoFile) (old new : Scene) (size : ℕ) → IfSome file says
     → (IsNone file → (other : AutoFile) → says other → ⊥) → KeepsAll old new
-    → IfSome file (λ f. IsStatedSize old new f.name.now f.place size) → Looks says old new size
-looks says (Some f) old new size is none keeps stated = (keeps, inl (f, is, stated))
-looks says None old new size is none keeps stated = (keeps, inr (none refl))
+    → MatchOption file (size ≡ none) (λ f. IsStatedSize old new f.name.now f.place size) → Looks says none old new size
+looks says none (Some f) old new size is unsaid keeps stated = (keeps, inl (f, is, stated))
+looks says none None old new size is unsaid keeps stated = (keeps, inr (unsaid refl, stated))

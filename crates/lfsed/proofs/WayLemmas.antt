@@ -7,8 +7,9 @@ use Rattle.lfs_host.specs.Files.{Files}
 use Rattle.lfs_host.specs.Scene.{Scene}
 use Rattle.lfs_serve.specs.Program.{EndsRequest}
 use Rattle.lfs_serve.specs.Requests.{FilesDenote, IsServedOn, RequestsLeadOn, Served}
+use Rattle.lfsed.specs.JsonWord.{plain_words}
 use Rattle.lfsed.specs.Way.{TakenRequest, AskedGoes, IsAskedOn, IsTornIn, ProgramRun, RunsLeadOn, asked_named, asked_words}
-use Rattle.lfsed.specs.Words.{AreStated, EndsError, EndsExplained, EndsForMemory, EndsUsedWrongly, EndsNamed, EndsPrinting, EndsWords}
+use Rattle.lfsed.specs.Words.{AreStated, EndsError, EndsExplained, EndsForMemory, EndsUsedWrongly, EndsLine, EndsNamed, EndsPrinting}
 
 -- ---- what asks for nothing changes no file
 
@@ -27,7 +28,7 @@ explained_stays old new status (inr (inl used_wrongly)) = used_wrongly_stays old
 explained_stays old new status (inr (inr memory)) = memory_stays old new status memory
 
 error_stays : (kind : _) (old new : Scene) (status : ℕ) → EndsError kind old new status → new.files ≡ old.files
-error_stays kind old new status (inl used_wrongly) = used_wrongly_stays old new status used_wrongly
+error_stays kind old new status (inl (other, used_wrongly)) = used_wrongly_stays old new status used_wrongly
 error_stays kind old new status (inr (inl (help, printed))) = printing_stays old new status printed
 error_stays kind old new status (inr (inr memory)) = memory_stays old new status memory
 
@@ -102,9 +103,9 @@ goes_named law size name r old mid h denotes on named (inr (inr (inr (flash, loo
     stays size name r old mid h denotes on finds.0.0
 
 goes_words : RequestsLeadOn → (size : ℕ) (name : List ℕ) (r : ProgramRun) (old mid : Files) (h : History) → FilesDenote size name old h
-    → OnFiles r old mid → (ends : EndsWords r.words r.old r.new r.status)
-    → IfSome (asked_words r.words r.old r.new r.status ends) (IsAskedOn size name)
-    → GoesOrTears size name r old mid (asked_words r.words r.old r.new r.status ends) h
+    → OnFiles r old mid → (ends : EndsLine r.words r.old r.new r.status)
+    → IfSome (asked_words (plain_words r.words) r.old r.new r.status ends) (IsAskedOn size name)
+    → GoesOrTears size name r old mid (asked_words (plain_words r.words) r.old r.new r.status ends) h
 goes_words law size name r old mid h denotes on (inl (read, is_read, named)) is = goes_named law size name r old mid h denotes on _ named is
 goes_words law size name r old mid h denotes on (inr (inl (not_read, (kind, among, ends)))) is =
     stays size name r old mid h denotes on (error_stays kind r.old r.new r.status ends)

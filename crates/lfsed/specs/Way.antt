@@ -1,6 +1,7 @@
 -- The way of a run of the program, from its words to the bytes of an image, and where lists of runs lead (own).
 --
 -- Each of these says how a run goes on by the next one:
+--   0  EndsLine      a word in front of the command that asks for JSON is put aside                           lfsed/specs/Words.antt
 --   1  EndsWords     the words are read, as they are or with `--` before a stray one, or refused              lfsed/specs/Words.antt
 --   2  EndsNamed     the command that they name explains faults, lists images, or asks for a request or none  lfsed/specs/Words.antt
 --   3  EndsRequest   the name of an image that is to be new is spared, and the status tells the fault         lfs_serve/specs/Program.antt
@@ -26,7 +27,8 @@ use Rattle.lfs_host.specs.Files.{Files}
 use Rattle.lfs_host.specs.Scene.{Scene, WasRefused}
 use Rattle.lfs_request.specs.declared.request.Request.{Request}
 use Rattle.lfs_serve.specs.Requests.{FilesDenote, OperationGoesBy}
-use Rattle.lfsed.specs.Words.{EndsNamed, EndsWords}
+use Rattle.lfsed.specs.JsonWord.{plain_words}
+use Rattle.lfsed.specs.Words.{EndsLine, EndsNamed, EndsWords}
 
 -- ---- runs
 
@@ -36,7 +38,7 @@ pub record ProgramRun : Type 0 where
   pub old : Scene
   pub new : Scene
   pub status : ℕ
-  pub ends : EndsWords words old new status
+  pub ends : EndsLine words old new status
 
 -- a request, and what was known of the host when it was taken up
 pub record TakenRequest : Type 0 where
@@ -56,7 +58,7 @@ asked_words words old new status _ = None
 
 -- the request as which a run ended, if it did
 abbrev pub asked_of : ProgramRun → Option TakenRequest
-asked_of r = asked_words r.words r.old r.new r.status r.ends
+asked_of r = asked_words (plain_words r.words) r.old r.new r.status r.ends
 
 -- a request is on the image of this name, with blocks of this size
 abbrev pub IsAskedOn : ℕ → List ℕ → TakenRequest → Type 0

@@ -16,11 +16,12 @@ use Rattle.lfs_grammar.specs.Grammar.{grammar}
 use Rattle.lfs_grammar.specs.Hyphens.{IsRead}
 use Rattle.lfs_arguments.specs.Words.{AsksFor, Explains, IsMissaid, LooksIn, SaysAutoImage, SaysAutoOther}
 use Rattle.lfs_arguments.specs.declared.usage_error.UsageError.{UsageError}
-use Rattle.lfs_exchange.specs.Printing.{PrintsBeginning}
+use Rattle.lfs_exchange.specs.Printing.{IsFlushed, PrintsBeginning}
 use Rattle.lfs_open.specs.Finding.{EndsFinding}
-use Rattle.lfs_host.specs.Scene.{KeepsAll, KeepsInput, Scene}
+use Rattle.lfs_host.specs.Scene.{HasRefused, KeepsAll, KeepsInput, Scene}
 use Rattle.lfs_serve.specs.Program.{EndsRequest}
 use Rattle.lfs_open.specs.Stated.{IsStatedSize}
+use Rattle.lfsed.specs.JsonWord.{plain_words}
 
 -- the status of a command line that is refused
 abbrev pub usage : ℕ
@@ -47,36 +48,40 @@ EndsForMemory old new status = KeepsAll old new × (status ≡ status_of (Some (
 abbrev pub EndsUsedWrongly : Scene → Scene → ℕ → Type 0
 EndsUsedWrongly old new status = (new ≡ old) × (status ≡ usage)
 
--- a text is printed, and nothing else is changed or made; or a beginning of it, where the host refuses the rest
+-- a text is printed and handed on, and nothing else is changed or made; or a beginning of it, if the host refuses the rest
 abbrev pub EndsPrinting : Scene → Scene → ℕ → Type 0
 EndsPrinting old new status =
     KeepsInput old new
     × ((text : List ℕ)
-    × (((status ≡ 0) × Appends old.printed new.printed text)
-    ⊎ ((status ≡ status_of (Some CannotWrite)) × PrintsBeginning old.printed new.printed text)))
+    × (((status ≡ 0) × IsFlushed new × Appends old.printed new.printed text)
+    ⊎ ((status ≡ status_of (Some CannotWrite)) × HasRefused new × PrintsBeginning old.printed new.printed text)))
 
 -- faults are explained; or a word is none of them; or there is no memory for what is said
 abbrev pub EndsExplained : Scene → Scene → ℕ → Type 0
 EndsExplained old new status = EndsPrinting old new status ⊎ EndsUsedWrongly old new status ⊎ EndsForMemory old new status
 
--- how words end that the grammar takes in no way: they are refused, unless their kind of error says that they call for help, which is
--- printed then; or there is no memory for what is said
+-- how words end that the grammar takes in no way: if their kind of error says that they call for help, it is printed, and otherwise they are
+-- refused; or there is no memory for what is said
 abbrev pub EndsError : ErrorKind → Scene → Scene → ℕ → Type 0
 EndsError kind old new status =
-    EndsUsedWrongly old new status ⊎ (CallsForHelp kind × EndsPrinting old new status) ⊎ EndsForMemory old new status
+    (¬ CallsForHelp kind × EndsUsedWrongly old new status)
+    ⊎ (CallsForHelp kind × EndsPrinting old new status)
+    ⊎ EndsForMemory old new status
 
--- a look at the file of which the words say that its block size stands for `auto`, which changes nothing: so it does, or any, where they say
--- so of no file
-abbrev pub Looks : (AutoFile → Type 0) → Scene → Scene → ℕ → Type 0
-Looks says old new size =
+-- a look at the file of which the words say that its block size stands for `auto`, which changes nothing: so it does; or this size, if they
+-- say so of no file
+abbrev pub Looks : (AutoFile → Type 0) → ℕ → Scene → Scene → ℕ → Type 0
+Looks says none old new size =
     KeepsAll old new
-    × (((file : AutoFile) × says file × IsStatedSize old new file.name.now file.place size) ⊎ ((file : AutoFile) → ¬ says file))
+    × (((file : AutoFile) × says file × IsStatedSize old new file.name.now file.place size)
+    ⊎ (((file : AutoFile) → ¬ says file) × (size ≡ none)))
 
--- block sizes stand for `auto`: those of the image, and of the one that it is compared with, or made of
+-- block sizes stand for `auto`: those of the image, and of the one that it is compared with, or made of, which is the image's if it isn't
+-- looked for
 abbrev pub AreStated : Option (Text × List Row) → Scene → Scene → AutoSizes → Type 0
 AreStated named old new stated =
-    (looked : Scene) × Looks (SaysAutoImage named) old looked stated.image
-    × Looks (SaysAutoOther named) looked new stated.other
+    (looked : Scene) × Looks (SaysAutoImage named) 0 old looked stated.image
+    × Looks (SaysAutoOther named) stated.image looked new stated.other
 
 -- images are looked for in a file, and listed, with the status that tells the fault
 abbrev pub EndsFound : Text → Scene → Scene → ℕ → Type 0
@@ -105,3 +110,7 @@ EndsWords words old new status =
     ((read : List Text) × IsRead words read × EndsNamed (subcommand_of grammar read) old new status)
     ⊎ EndsRefused words old new status
     ⊎ EndsForMemory old new status
+
+-- how a command line ends of which a word in front of the command may ask for JSON: as its words do without that
+abbrev pub EndsLine : List Text → Scene → Scene → ℕ → Type 0
+EndsLine words old new status = EndsWords (plain_words words) old new status

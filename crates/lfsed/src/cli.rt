@@ -1,6 +1,6 @@
 //! The program, over a host.
 
-ghost use Rattle.std.specs.Prelude.{◌≡◌, ◌≢◌, IfOk, IfSome, Some, map};
+ghost use Rattle.std.specs.Prelude.{◌≡◌, ◌≢◌, IfOk, MatchOption, Some, map, string_bytes};
 ghost use Rattle.clap.specs.Words.{HasKind, fault_of, kind_of, subcommand_rows_of};
 ghost use Rattle.lfs_grammar.specs.Grammar.{IsTaken, NamesCommand, grammar};
 ghost use Rattle.lfs_grammar.specs.Hyphens.{IsRead};
@@ -10,8 +10,9 @@ ghost use Rattle.lfs_request.specs.declared.fault.Fault.TheVariants.{Refused};
 ghost use Rattle.lfs_command.specs.declared.refusal.Refusal.TheVariants.{Memory as No_memory};
 ghost use Rattle.lfs_open.specs.Stated.{IsStatedSize};
 ghost use Rattle.lfs_arguments.specs.declared.usage_error.UsageError.TheVariants.{Memory};
-ghost use Rattle.lfsed.specs.Words.{EndsError, EndsExplained, EndsFound, EndsUsedWrongly, EndsNamed, EndsPrinting, EndsWords, AreStated, ended_with};
+ghost use Rattle.lfsed.specs.Words.{EndsError, EndsExplained, EndsFound, EndsLine, EndsUsedWrongly, EndsNamed, EndsPrinting, EndsWords, AreStated, ended_with};
 
+use crate::json_word::plain;
 use crate::tips::retold;
 use crate::usage_line::UsageLine;
 use clap::error::ErrorKind;
@@ -40,11 +41,12 @@ pub const USAGE: u8 = 2;
 const OUTPUT: &str = "standard output";
 
 /// Does what the words of a command line ask for, the program's name first among them, and answers the status that the
-/// program ends with. A fault is told on standard error.
-pub fn cli<H: Host, W: AsStr>(alloc: Global, host: &mut H, words: &[W]) -> u8
-    ensures ended { EndsWords (map W.text words.now) (H.known host.old) (H.known host.new) result }
+/// program ends with. `--json` may stand in front of the command. A fault is told on standard error.
+pub fn cli<H: Host>(alloc: Global, host: &mut H, words: Vec<String>) -> u8
+    ensures ended { EndsLine (map string_bytes words.items) (H.known host.old) (H.known host.new) result }
 {
-    match done(alloc, host, words) {
+    let words = plain(words);
+    match done(alloc, host, words.as_slice()) {
         Ok(status) => status,
         Err(fault) => report_of_image(host, OUTPUT, fault),
     }
@@ -148,14 +150,15 @@ fn stated_for<H: Host>(
     Ok(AutoSizes { image, other })
 }
 
-/// What the image in a file states as its block size; this one where there is no file.
+/// What the image in a file states as its block size; this one if there is no file.
 fn size_in<H: Host>(
     alloc: Global,
     host: &mut H,
     file: Option<AutoFile<'_>>,
     size: u32,
 ) -> Result<u32, AllocError>
-    ensures stated { IfOk result (λ stated. IfSome file.entry (λ f. IsStatedSize (H.known host.old) (H.known host.new) f.name.now f.place stated)) }
+    ensures stated { IfOk result (λ stated. MatchOption file.entry (stated ≡ size)
+        (λ f. IsStatedSize (H.known host.old) (H.known host.new) f.name.now f.place stated)) }
     ensures kept { KeepsAll (H.known host.old) (H.known host.new) }
 {
     match file {

@@ -8,7 +8,7 @@ mod usage_line;
 mod way;
 
 use crate::cli::{USAGE, cli as run_words};
-use crate::json_word::told_in_json;
+use crate::json_word::asks_for_json;
 use lfs_command::Refusal;
 use lfs_exchange::report;
 use lfs_host::Host;
@@ -25,13 +25,9 @@ fn main(rt: HostRuntime) -> ExitCode {
 /// Hands the program's arguments on, and answers the status to end with.
 fn status(rt: &HostRuntime) -> u8 {
     match words(rt) {
-        Ok(mut words) => {
-            let in_json = told_in_json(&mut words);
-            run_words(
-                rt.alloc(),
-                &mut Terminal::new(rt, in_json),
-                words.as_slice(),
-            )
+        Ok(words) => {
+            let mut terminal = Terminal::new(rt, asks_for_json(&words));
+            run_words(rt.alloc(), &mut terminal, words)
         }
         Err(error) => without_words(&mut Terminal::new(rt, false), error),
     }

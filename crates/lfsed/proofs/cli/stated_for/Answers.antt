@@ -11,8 +11,8 @@ returns-clause-stated g c =
     let looked = g.H.Known.known c.size_in.new.host in
     let new = g.H.Known.known c.size_in-2.new.host in (
       looked,
-      looks (SaysAutoImage named) c.auto_image.result old looked c.in_ok-image.image c.auto_image.ensures.some c.auto_image.ensures.none
+      looks (SaysAutoImage named) 0 c.auto_image.result old looked c.in_ok-image.image c.auto_image.ensures.some c.auto_image.ensures.none
           c.in_ok-image.ensures.kept c.in_ok-image.ensures.stated,
-      looks (SaysAutoOther named) c.auto_other.result looked new c.in_ok-other.other c.auto_other.ensures.some c.auto_other.ensures.none
+      looks (SaysAutoOther named) c.in_ok-image.image c.auto_other.result looked new c.in_ok-other.other c.auto_other.ensures.some c.auto_other.ensures.none
           c.in_ok-other.ensures.kept c.in_ok-other.ensures.stated,
     )
