@@ -47,9 +47,10 @@ overflow_add-made c =
     let command = named_command c.args.command.now in
     let used = c.args.used.now in
     let o = c.edit_least.new.outline in
+    let size : v.size ≡ c.outline.inside.size = sym (ap (λ (x : Volume). x.size) (c.outline.view_is ∙ c.requires.judged.1.is.outline)) in
     let all = edited_known c.carrying_laws.ensures c.needs_are_small.ensures v command c.args.outline.now o used c.requires.judged.1
     c.requires.table c.in_ok-edit_least.ensures in
-    omega (arith, all.known.needed, all.known.small, c.data_blocks.ensures v (sym (ap (λ (x : Volume). x.size) (c.outline.view_is ∙ c.requires.judged.1.is.outline))), c.directory_blocks.ensures)
+    omega (arith, all.known.needed, all.known.small, c.data_blocks.ensures v size, c.directory_blocks.ensures)
 
 pub needed_blocks-requires-clause-size : goal.needed_blocks-requires-clause-size
 needed_blocks-requires-clause-size c =
@@ -67,9 +68,10 @@ needed_blocks-requires-clause-small c =
     let command = named_command c.args.command.now in
     let used = c.args.used.now in
     let o = c.edit_least.new.outline in
+    let size : v.size ≡ c.outline.inside.size = sym (ap (λ (x : Volume). x.size) (c.outline.view_is ∙ c.requires.judged.1.is.outline)) in
     let all = edited_known c.carrying_laws.ensures c.needs_are_small.ensures v command c.args.outline.now o used c.requires.judged.1
     c.requires.table c.in_ok-edit_least.ensures in
-    omega (arith, all.known.needed, all.known.small, c.data_blocks.ensures v (sym (ap (λ (x : Volume). x.size) (c.outline.view_is ∙ c.requires.judged.1.is.outline))), c.directory_blocks.ensures)
+    omega (arith, all.known.needed, all.known.small, c.data_blocks.ensures v size, c.directory_blocks.ensures)
 
 pub needed_blocks-requires-clause-front : goal.needed_blocks-requires-clause-front
 needed_blocks-requires-clause-front c =
@@ -96,10 +98,11 @@ leader-leading-requires c =
     let command = named_command c.args.command.now in
     let used = c.args.used.now in
     let o = c.edit_least.new.outline in
+    let size : v.size ≡ c.outline.inside.size = sym (ap (λ (x : Volume). x.size) (c.outline.view_is ∙ c.requires.judged.1.is.outline)) in
     let all = edited_known c.carrying_laws.ensures c.needs_are_small.ensures v command c.args.outline.now o used c.requires.judged.1
     c.requires.table c.in_ok-edit_least.ensures in
     let made : c.data_blocks.result + c.directory_blocks.result ≡ made_blocks v command =
-    omega (arith, c.data_blocks.ensures v (sym (ap (λ (x : Volume). x.size) (c.outline.view_is ∙ c.requires.judged.1.is.outline))), c.directory_blocks.ensures) in
+    omega (arith, c.data_blocks.ensures v size, c.directory_blocks.ensures) in
     ready_rise c.carrying_laws.ensures c.outlines_are_sound.ensures v command used c.in_ok-blocks.blocks.items o
     (led v command used o all.is c.in_ok-blocks.blocks.items (c.data_blocks.result + c.directory_blocks.result)
     (leader v command (supplies_of v command)) all.known made c.in_ok-blocks.ensures.unrefused c.in_ok-blocks.ensures.blocks refl).ready
@@ -115,8 +118,9 @@ returns-in_err-blocks-clause-refused c =
       | inr refused ↦ inr (λ v judged.
           let all = edited_known c.carrying_laws.ensures c.needs_are_small.ensures v command c.args.outline.now o used judged
           c.requires.table c.in_ok-edit_least.ensures in
+          let size : v.size ≡ c.outline.inside.size = sym (ap (λ (x : Volume). x.size) (c.outline.view_is ∙ judged.is.outline)) in
           let made : c.data_blocks.result + c.directory_blocks.result ≡ made_blocks v command =
-          omega (arith, c.data_blocks.ensures v (sym (ap (λ (x : Volume). x.size) (c.outline.view_is ∙ judged.is.outline))), c.directory_blocks.ensures) in
+          omega (arith, c.data_blocks.ensures v size, c.directory_blocks.ensures) in
           sym all.known.judged ∙ ap (λ (n : ℕ). first_refusal (room_checks_on o n (unused used))) (sym made) ∙ refused)
     ])
 
@@ -126,10 +130,11 @@ cut_ready-requires-clause-led c =
     let command = named_command c.args.command.now in
     let used = c.args.used.now in
     let o = c.edit_least.new.outline in
+    let size : v.size ≡ c.outline.inside.size = sym (ap (λ (x : Volume). x.size) (c.outline.view_is ∙ c.requires.judged.1.is.outline)) in
     let all = edited_known c.carrying_laws.ensures c.needs_are_small.ensures v command c.args.outline.now o used c.requires.judged.1
     c.requires.table c.in_ok-edit_least.ensures in
     let made : c.data_blocks.result + c.directory_blocks.result ≡ made_blocks v command =
-    omega (arith, c.data_blocks.ensures v (sym (ap (λ (x : Volume). x.size) (c.outline.view_is ∙ c.requires.judged.1.is.outline))), c.directory_blocks.ensures) in (
+    omega (arith, c.data_blocks.ensures v size, c.directory_blocks.ensures) in (
       v,
       command,
       used,

@@ -8,10 +8,14 @@ pub returns-in_err-copy-clause-fit : goal.returns-in_err-copy-clause-fit
 returns-in_err-copy-clause-fit c = rw (err_from_is_err_and c.from_residual.result c.from_residual.ensures.1).1 tt
 
 pub returns-in_err-copied_attribute-clause-same : goal.returns-in_err-copied_attribute-clause-same
-returns-in_err-copied_attribute-clause-same c = rw (err_from_is_err_and c.from_residual-in_err-copied_attribute.result c.from_residual-in_err-copied_attribute.ensures.1).1 tt
+returns-in_err-copied_attribute-clause-same c =
+    let on = c.from_residual-in_err-copied_attribute in
+    rw (err_from_is_err_and on.result on.ensures.1).1 tt
 
 pub returns-in_err-copied_attribute-clause-fit : goal.returns-in_err-copied_attribute-clause-fit
-returns-in_err-copied_attribute-clause-fit c = rw (err_from_is_err_and c.from_residual-in_err-copied_attribute.result c.from_residual-in_err-copied_attribute.ensures.1).1 tt
+returns-in_err-copied_attribute-clause-fit c =
+    let on = c.from_residual-in_err-copied_attribute in
+    rw (err_from_is_err_and on.result on.ensures.1).1 tt
 
 pub returns-in_err-push-clause-same : goal.returns-in_err-push-clause-same
 returns-in_err-push-clause-same c = rw (err_from_is_err_and c.from_residual-in_err-push.result c.from_residual-in_err-push.ensures.1).1 tt

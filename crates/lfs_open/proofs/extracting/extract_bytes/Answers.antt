@@ -1,5 +1,6 @@
 use Rattle.std.proofs.Common.{rules, ◌≡◌, ap, ◌∙◌, Option, Some, None}
 use Rattle.std.specs.Result.{result_err}
+use Rattle.lfs_host.specs.Scene.{Scene}
 use Rattle.lfs_request.specs.declared.fault.Fault.{Fault}
 use Rattle.lfs_open.proofs.ExtractingLemmas.{bytes_end}
 use Rattle.lfs_open.proofs.extracting.extract_bytes.Goals as goal
@@ -8,7 +9,8 @@ pub returns-in-Ok-extract_image-clause-made : goal.returns-in-Ok-extract_image-c
 returns-in-Ok-extract_image-clause-made g c =
     let fault : Option Fault = result_err c.extract_image.result in
     let told : None ≡ fault = search rules in
-    bytes_end c.args.request.now.size c.args.bytes.items c.in-Ok.image.disk c.args.path.now c.args.dir.now (g.H.Known.known c.args.host.now).tree (g.H.Known.known c.args.host.now).made
+    let old : Scene = g.H.Known.known c.args.host.now in
+    bytes_end c.args.request.now.size c.args.bytes.items c.in-Ok.image.disk c.args.path.now c.args.dir.now old.tree old.made
     (g.H.Known.known c.extract_image.new.host) None fault c.in-Ok.ensures.disk c.in-Ok.ensures.size c.in-Ok.ensures.bytes told
     c.extract_image.ensures.made
 
@@ -18,6 +20,7 @@ returns-in-Err-extract_image-clause-made g c =
     let is : Some c.in-Err-extract_image.fault ≡ fault = search rules in
     let stop = c.stop_of_extracting.result in
     let told : Some stop.fault ≡ fault = ap Some c.stop_of_extracting.ensures ∙ is in
-    bytes_end c.args.request.now.size c.args.bytes.items c.in-Ok.image.disk c.args.path.now c.args.dir.now (g.H.Known.known c.args.host.now).tree (g.H.Known.known c.args.host.now).made
+    let old : Scene = g.H.Known.known c.args.host.now in
+    bytes_end c.args.request.now.size c.args.bytes.items c.in-Ok.image.disk c.args.path.now c.args.dir.now old.tree old.made
     (g.H.Known.known c.extract_image.new.host) (Some stop.fault) fault c.in-Ok.ensures.disk c.in-Ok.ensures.size
     c.in-Ok.ensures.bytes told c.extract_image.ensures.made
