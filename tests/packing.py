@@ -6,12 +6,11 @@ import pathlib
 import random
 import shutil
 import socket
-import struct
 import sys
 import tempfile
 
 from support.folder import contents, fill, run_scenes
-from support.littlefs import IN_BLOCKS, ROOT, DIRECTORY, Reader
+from support.littlefs import Reader
 from support.refusing import Refusing
 
 # The journal of 8 blocks of 512 bytes without changes.
@@ -50,27 +49,10 @@ def listing_of(place):
     return "".join(f"{'d' if is_folder else 'f'} {size:>10} {shown(path)}\n" for path, size, is_folder in rows)
 
 
-def contents_of(reader, entry):
-    """The contents of a file in an image: behind block n's pointers, of which it has as many as n has factors 2, and one more."""
-    if entry.kind != IN_BLOCKS:
-        return entry.value
-    blocks = reversed(reader.blocks_of(entry))
-    parts = [reader.block(block)[4 * (n & -n).bit_length():] for n, block in enumerate(blocks)]
-    return b"".join(parts)[:struct.unpack("<2I", entry.value)[1]]
-
-
 def files_in(image, size):
     """The files of an image by their paths, with their contents."""
-    reader, files, waiting = Reader(image, size), {}, [(b"", ROOT)]
-    while waiting:
-        path, pair = waiting.pop()
-        for entry in reader.entries(pair):
-            name = path + b"/" + entry.name
-            if entry.kind == DIRECTORY:
-                waiting.append((name, entry.pair()))
-            else:
-                files[name] = contents_of(reader, entry)
-    return files
+    reader = Reader(image, size)
+    return {path: reader.contents(entry) for path, entry in reader.files().items()}
 
 
 def is_packed(folder, what, size, count):

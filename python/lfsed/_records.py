@@ -18,7 +18,7 @@ class Limits:
 class Summary:
     """The size of an image's blocks, how many it has and how many of them are free; how many directories and files it holds; how many
     bytes are free; the disk version that it is read as, and its limits. `inline_longest` is the length in bytes of the longest file that
-    stands in its directory entry, 0 where none does: a device with a cache of that length changes each file in place."""
+    stands in its directory entry, 0 if none does: a device with a cache of that length changes each file in place."""
 
     block: int
     count: int

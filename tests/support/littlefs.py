@@ -190,21 +190,25 @@ class Reader:
                 waiting.append((name, below.pair() if below.kind == DIRECTORY else None, below))
         return tree
 
-    def in_entries(self):
-        """The lengths of the files that stand in their entries, by their paths."""
-        lengths, waiting = {}, [(b"", ROOT)]
+    def files(self):
+        """The entries of all files, by their paths."""
+        files, waiting = {}, [(b"", ROOT)]
         while waiting:
             path, pair = waiting.pop()
             for entry in self.entries(pair):
                 name = path + b"/" + entry.name
                 if entry.kind == DIRECTORY:
                     waiting.append((name, entry.pair()))
-                elif entry.kind == CONTENTS:
-                    lengths[name] = len(entry.value)
-        return lengths
+                else:
+                    files[name] = entry
+        return files
+
+    def in_entries(self):
+        """The lengths of the files that stand in their entries, by their paths."""
+        return {path: len(entry.value) for path, entry in self.files().items() if entry.kind == CONTENTS}
 
     def longest(self):
-        """The length of the longest file that stands in its entry; 0 where none does."""
+        """The length of the longest file that stands in its entry; 0 if none does."""
         return max(self.in_entries().values(), default=0)
 
     def used_by_files(self):

@@ -13,7 +13,7 @@ use crate::draft::Draft;
 use crate::thread::thread_table;
 use crate::tidying::tidy;
 use lfs_block::{Blocks, Image, put_blocks_stand};
-use lfs_lower::join;
+use lfs_lower::{Rewrite, join};
 use lfs_meta::parts_depend_on_their_blocks;
 use lfs_settle::{Ended, settle};
 use std::alloc::{AllocError, Global};
@@ -47,7 +47,7 @@ fn take_block(alloc: Global, draft: &mut Draft, number: u32, block: &[u8]) -> Re
     if draft.block(number) == block {
         return Ok(());
     }
-    draft.set(alloc, number, block)?;
+    draft.rewrite(alloc, number, block)?;
     let _fits_them_still = draft.size();
     Ok(())
 }

@@ -1,9 +1,8 @@
 //! A draft of an image: blocks that are written anew beside it.
 
-ghost use Rattle.std.specs.Prelude.{◌≡◌, IfOk, None, replicate};
+ghost use Rattle.std.specs.Prelude.{◌≡◌, ◌++◌, ◌∷◌, [], IfOk, None, OnOk, cond, replicate};
 ghost use Rattle.lfs_adopt.specs.Draft.{IsDraft, drafted};
 
-use crate::changed::push_if;
 use lfs_block::{Blocks, Image, images_are_their_blocks, put_blocks_stand};
 use lfs_lower::Rewrite;
 use std::alloc::{AllocError, Global};
@@ -39,6 +38,16 @@ fn no_blocks(alloc: Global, count: u32) -> Result<Vec<Option<NewBlock>>, AllocEr
     Ok(blocks)
 }
 
+/// Puts a number after others, if the block of that number differs. Takes memory.
+fn push_if(changed: &mut Vec<u32>, number: u32, differs: bool) -> Result<(), AllocError>
+    ensures { OnOk result (changed.new.items ≡ changed.old.items ++ cond differs (number ∷ []) []) }
+{
+    if differs {
+        changed.push(number)?;
+    }
+    Ok(())
+}
+
 // ---- the draft
 
 /// A draft of an image: the image, which stays as it is, and blocks that are written anew beside it. As a disk it is the image with those
@@ -62,8 +71,7 @@ impl<'a> Model for Draft<'a> {
 }
 
 impl<'a> Draft<'a> {
-    ghost use Rattle.std.specs.Prelude.{◌≡◌, ◌<◌, IfOk, OnOk, length};
-    ghost use Rattle.lfs_block.specs.Disk.{put};
+    ghost use Rattle.std.specs.Prelude.{◌≡◌, ◌<◌, IfOk};
     ghost use Rattle.lfs_adopt.specs.Changed.{changed_blocks, is_changed};
     ghost use Rattle.lfs_adopt.specs.Draft.{IsDraft, drafted};
 
@@ -75,20 +83,6 @@ impl<'a> Draft<'a> {
         let _fits_the_limits = image.size();
         let blocks = no_blocks(alloc, image.count())?;
         Ok(Draft { image, blocks })
-    }
-
-    /// Writes a block anew. Memory that is refused changes nothing. Takes memory.
-    pub(crate) fn set(&mut self, alloc: Global, n: u32, bytes: &[u8]) -> Result<(), AllocError>
-        requires within { n < (drafted self.old).count }
-        requires complete { length bytes.now ≡ (drafted self.old).size }
-        ensures base { self.new.base ≡ self.old.base }
-        ensures put { OnOk result (drafted self.new ≡ put n bytes.now (drafted self.old)) }
-    {
-        put_blocks_stand();
-        images_are_their_blocks();
-        let bytes = bytes.to_vec(alloc)?;
-        self.blocks[n as usize] = Some(NewBlock { bytes });
-        Ok(())
     }
 
     /// Whether a block differs from the image's.
@@ -148,8 +142,21 @@ impl<'a> Blocks for Draft<'a> {
 }
 
 impl<'a> Rewrite for Draft<'a> {
-    fn rewrite(&mut self, alloc: Global, n: u32, bytes: &[u8]) -> Result<(), AllocError> {
-        self.set(alloc, n, bytes)
+    ghost use Rattle.std.specs.Prelude.{◌≡◌, ◌<◌, OnErr, OnOk, length};
+    ghost use Rattle.lfs_block.specs.Disk.{put};
+
+    fn rewrite(&mut self, alloc: Global, n: u32, bytes: &[u8]) -> Result<(), AllocError>
+        requires within { n < (drafted self.old).count }
+        requires complete { length bytes.now ≡ (drafted self.old).size }
+        ensures put { OnOk result (drafted self.new ≡ put n bytes.now (drafted self.old)) }
+        ensures stays { OnErr result (drafted self.new ≡ drafted self.old) }
+        ensures base { self.new.base ≡ self.old.base }
+    {
+        put_blocks_stand();
+        images_are_their_blocks();
+        let bytes = bytes.to_vec(alloc)?;
+        self.blocks[n as usize] = Some(NewBlock { bytes });
+        Ok(())
     }
 }
 
@@ -158,7 +165,8 @@ impl<'a> Rewrite for Draft<'a> {
 /// Writes the new blocks of a draft into its image.
 pub fn put_drafted(image: &mut Image, blocks: &[Option<NewBlock>])
     requires { IsDraft (record { base = image.old.disk; blocks = blocks.now }) }
-    ensures { image.new.disk ≡ drafted (record { base = image.old.disk; blocks = blocks.now }) }
+    ensures disk { image.new.disk ≡ drafted (record { base = image.old.disk; blocks = blocks.now }) }
+    ensures room { image.new.room ≡ image.old.room }
 {
     put_blocks_stand();
     for number in 0..image.count() {

@@ -3,7 +3,6 @@
 #![tactic(auto)]
 
 mod adopting;
-mod changed;
 mod draft;
 mod laws;
 mod planning;

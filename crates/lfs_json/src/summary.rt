@@ -31,7 +31,7 @@ pub struct Summary {
     pub version: u32,
     /// Its limits.
     pub limits: Limits,
-    /// The length of the longest file that stands in its entry, in bytes; 0 where none does.
+    /// The length of the longest file that stands in its entry, in bytes; 0 if none does.
     pub inline_longest: usize,
 }
 

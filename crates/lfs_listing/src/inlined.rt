@@ -28,7 +28,7 @@ fn greater(length: usize, other: Option<usize>) -> usize
     }
 }
 
-/// The length of the longest file that stands in its entry, in bytes; 0 where none does.
+/// The length of the longest file that stands in its entry, in bytes; 0 if none does.
 pub fn longest_inline(rows: Rows<'_>) -> usize
     ensures { result ≡ longest (rows_listed rows.entry) }
 {
@@ -63,8 +63,8 @@ fn append_if_longer(
     }
 }
 
-/// Adds a line for each file that stands in its entry and is longer than `most` bytes: its path, as `send_listing` shows it. Want of
-/// memory is the only refusal.
+/// Adds a line for each file that stands in its entry and is longer than `most` bytes: its path, as `send_listing` shows it. Takes
+/// memory.
 pub fn append_longer(
     alloc: Global,
     text: &mut Vec<u8>,

@@ -1,14 +1,33 @@
-//! A block of a pair written alone.
+//! Images of which single blocks are written anew, and a block of a pair written alone.
 
 ghost use Rattle.std.specs.Prelude.{◌≡◌, ◌≢◌, ◌<◌, ◌≤◌, IfOk, OnOk, length};
 ghost use Rattle.lfs_block.specs.Bytes.{IsBytes};
 ghost use Rattle.lfs_lower.specs.Alone.{IsWrittenAlone, is_silent};
 
 use crate::kept::kept_edits;
-use crate::rewrite::Rewrite;
-use lfs_block::put_blocks_stand;
+use lfs_block::{Blocks, Image, put_blocks_stand};
 use lfs_tag::Log;
 use std::alloc::{AllocError, Global};
+
+/// An image of which single blocks can be written anew, in place or beside it.
+pub trait Rewrite: Blocks {
+    ghost use Rattle.std.specs.Prelude.{◌≡◌, ◌<◌, OnErr, OnOk, length};
+    ghost use Rattle.lfs_block.specs.Disk.{put};
+
+    /// Gives a block these bytes. Memory that is refused changes nothing. Takes memory.
+    fn rewrite(&mut self, alloc: Global, n: u32, bytes: &[u8]) -> Result<(), AllocError>
+        requires within { n < (Self.disk self.old).count }
+        requires complete { length bytes.now ≡ (Self.disk self.old).size }
+        ensures put { OnOk result (Self.disk self.new ≡ put n bytes.now (Self.disk self.old)) }
+        ensures stays { OnErr result (Self.disk self.new ≡ Self.disk self.old) };
+}
+
+impl Rewrite for Image {
+    fn rewrite(&mut self, _alloc: Global, n: u32, bytes: &[u8]) -> Result<(), AllocError> {
+        self.write_block(n, bytes);
+        Ok(())
+    }
+}
 
 /// Whether neither version reads a commit of a block. Takes memory.
 fn is_silent(alloc: Global, block: &[u8]) -> Result<bool, AllocError>

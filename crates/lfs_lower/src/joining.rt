@@ -5,9 +5,9 @@ ghost use Rattle.lfs_lower.specs.Joined.{IsJoinedImage};
 ghost use Rattle.lfs_lower.specs.Joining.{AreSuperblockParts, begins_so, last_in, led_parts, lowered_in, stripped};
 ghost use Rattle.lfs_lower.specs.OneSuperblock.{is_header, lowered_entry};
 
+use crate::alone::Rewrite;
 use crate::header::lower_header;
 use crate::putting::{all_can, put_parts};
-use crate::rewrite::Rewrite;
 use crate::superblocks::{is_superblock, superblock_parts};
 use lfs_block::Blocks;
 use lfs_meta::{Body, Entry, Part, parts_depend_on_their_blocks};

@@ -4,14 +4,13 @@ ghost use Rattle.std.specs.Prelude.{◌≡◌, ◌≢◌, ◌<◌, ◌≤◌, Bo
 ghost use Rattle.lfs_lower.specs.Lowered.{IsBlockLowered, IsLaterLive, IsPairLowered, IsReadFor, tried_first};
 ghost use Rattle.lfs_lower.specs.Spelled.{lowered_tags};
 
-use crate::alone::write_alone;
+use crate::alone::{Rewrite, write_alone};
 use crate::block::lowered_block;
 use crate::kept::kept_edits;
 use crate::later_part::later_part_at;
 use crate::laws::lowered_blocks_are_read;
 use crate::plain::is_plain_pair;
 use crate::putting::can_be_put;
-use crate::rewrite::Rewrite;
 use crate::seen_pair::is_later;
 use lfs_block::{Blocks, Image, put_blocks_stand};
 use lfs_meta::revision;

@@ -7,8 +7,7 @@ ghost use Rattle.lfs_fs.specs.Thread.{next};
 ghost use Rattle.lfs_lower.specs.Joining.{ArePartsPut, ArePlaces, CanPut, IsPartPut};
 ghost use Rattle.lfs_lower.specs.OneSuperblock.{can_be_put, tail_within};
 
-use crate::alone::write_alone;
-use crate::rewrite::Rewrite;
+use crate::alone::{Rewrite, write_alone};
 use lfs_block::Blocks;
 use lfs_meta::{LiveBlock, Part, Tail, parts_depend_on_their_blocks, revision};
 use lfs_pair::{holds_part, part_block, part_weight};

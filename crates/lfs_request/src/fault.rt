@@ -76,8 +76,8 @@ impl Fault {
         }
     }
 
-    /// The status that the program ends with: 1 where a command was refused, two images differ, or a file in its entry is longer than asked,
-    /// 2 for the command line, 3 where an image or a journal was refused, 4 for want of memory and for what the host refused.
+    /// The status that the program ends with: 1 if a command was refused, two images differ, or a file in its entry is longer than asked; 2 for
+    /// the command line; 3 if an image or a journal was refused; 4 if it is out of memory, and for what the host refused.
     pub fn status(self) -> u8
         ensures { result ≡ status_of_number (fault_number self) }
     {

@@ -65,7 +65,7 @@ abbrev pub SendsSome : Question → Form → Disk → Option (List ℕ) → Opti
 SendsSome query form disk old new =
     Keeps old new ⊎ ((text : List ℕ) × IsAnswer query form disk text × (n : ℕ) × (n ≤ length text) × Appends old new (take n text))
 
--- what goes out of an image that is checked, of which a file is longer than is asked, or none is
+-- what goes out of an image that is checked, by whether a file is longer than is asked
 abbrev pub SendsCheck : ℕ → Option ℕ → Form → Disk → Bool → Option (List ℕ) → Option (List ℕ) → Type 0
 SendsCheck version most form disk longer old new =
     (mounted : MountedValue) × IsMountOf disk mounted × (has_longer most mounted ≡ longer)
@@ -76,9 +76,8 @@ abbrev pub SendsAnswer : Question → Form → Disk → Option (List ℕ) → Op
 SendsAnswer (Check version most) form disk old new = SendsCheck version most form disk false old new
 SendsAnswer query form disk old new = (text : List ℕ) × IsAnswer query form disk text × Appends old new text
 
--- what goes out on an image: the whole text, a beginning of it where standard output failed, else nothing; of a check the whole text also
--- where a file is longer than is asked; of a listing, and of what is said of blocks, which are written line by line, some where memory was
--- refused
+-- what goes out on an image: the whole text, a beginning of it if standard output failed, else nothing; of a check the whole text also if a
+-- file is longer than is asked; of a listing, and of what is said of blocks, which are written line by line, some if memory was refused
 abbrev pub SendsReport : Question → Form → Disk → Option Fault → Option (List ℕ) → Option (List ℕ) → Type 0
 SendsReport query form disk None old new = SendsAnswer query form disk old new
 SendsReport query form disk (Some CannotWrite) old new =
@@ -93,7 +92,7 @@ abbrev pub fault_of_unsent : Unsent → Fault
 fault_of_unsent unsent.Memory = Refused Memory
 fault_of_unsent unsent.CannotWrite = CannotWrite
 
--- how a check ends whose text went out as a whole, or didn't, where a file is longer than is asked, or none is
+-- how a check ends, by whether its text went out completely, and whether a file is longer than is asked
 abbrev pub end_of_check : Bool → Bool → Option Fault
 end_of_check false longer = Some CannotWrite
 end_of_check true true = Some Differ

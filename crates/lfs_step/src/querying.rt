@@ -122,7 +122,7 @@ fn say_check<S: Sink>(
     check_ended(send(out, &text), longer)
 }
 
-/// How a check ends whose text went out as a whole, or didn't, where a file is longer than is asked, or none is.
+/// How a check ends, by whether its text went out completely, and whether a file is longer than is asked.
 fn check_ended(complete: bool, longer: bool) -> Result<(), Fault>
     ensures { result_err result ≡ end_of_check complete longer }
 {

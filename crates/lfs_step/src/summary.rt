@@ -3,7 +3,7 @@
 ghost use Rattle.std.specs.Prelude.{◌≡◌, ◌++◌, IfOk, OnOk, string_bytes};
 ghost use Rattle.lfs_json.specs.Line.{line_of};
 ghost use Rattle.lfs_json.specs.Summary.{json_of_summary};
-ghost use Rattle.lfs_step.specs.Summary.{check_text, counts, has_longer, inline_longest, longer_if_asked};
+ghost use Rattle.lfs_step.specs.Summary.{check_text, counts, has_longer, longer_if_asked};
 ghost use Rattle.lfs_step.specs.Summary.{summary, summary_of, summary_text, version_line};
 
 use lfs_block::{Blocks, Image};
@@ -11,13 +11,6 @@ use lfs_fs::Mounted;
 use lfs_json::{Form, Summary, append_json_summary};
 use lfs_listing::{append_longer, longest_inline};
 use std::alloc::{AllocError, Global};
-
-/// The length of the longest file of a mounted image that stands in its entry, in bytes; 0 where none does.
-fn inline_longest(mounted: &Mounted) -> usize
-    ensures { result ≡ inline_longest mounted.now }
-{
-    longest_inline(mounted.rows())
-}
 
 /// A mounted image of a disk version in numbers.
 fn summary_of(version: u32, image: &Image, mounted: &Mounted) -> Summary
@@ -31,7 +24,7 @@ fn summary_of(version: u32, image: &Image, mounted: &Mounted) -> Summary
         files: mounted.files(),
         version,
         limits: mounted.limits(),
-        inline_longest: inline_longest(mounted),
+        inline_longest: longest_inline(mounted.rows()),
     }
 }
 
@@ -105,7 +98,7 @@ fn summary_text(
 }
 
 /// Adds the lines of the files of a mounted image that stand in their entries and are longer than `most` bytes, if that is asked for, in a
-/// form that has any.
+/// form that lists them.
 fn append_if_asked(
     alloc: Global,
     form: Form,
@@ -143,7 +136,7 @@ pub(crate) fn has_longer(most: Option<u32>, mounted: &Mounted) -> bool
     ensures { result ≡ has_longer most mounted.now }
 {
     match most {
-        Some(most) => (most as usize) < inline_longest(mounted),
+        Some(most) => (most as usize) < longest_inline(mounted.rows()),
         None => false,
     }
 }

@@ -18,6 +18,6 @@ returns g c =
           on_ok_weaker c.rewrite-3.result (λ new.
           written_alone c.put_blocks_stand.ensures.block c.put_blocks_stand.ensures.others c.put_blocks_stand.ensures.disk d e c.args.live
           c.args.beside c.args.block.now erased c.size-size.ensures.disk c.requires.apart c.requires.first c.requires.second c.requires.complete
-          (λ i. omega (arith, c.type_inv.block i)) is said (new ∙ ap (put c.args.beside erased) c.in_ok-rewrite-2.ensures))
-          c.rewrite-3.ensures;
+          (λ i. omega (arith, c.type_inv.block i)) is said (new ∙ ap (put c.args.beside erased) c.in_ok-rewrite-2.ensures.put))
+          c.rewrite-3.ensures.put;
     }

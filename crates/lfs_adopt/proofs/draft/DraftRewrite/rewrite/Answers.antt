@@ -4,7 +4,7 @@ use Rattle.lfs_block.specs.Bytes.{IsBytes}
 use Rattle.lfs_block.specs.Disk.{put}
 use Rattle.lfs_adopt.specs.Draft.{Drafted, drafted}
 use Rattle.lfs_adopt.proofs.Drafts.{drafted_count, drafted_size, written_draft, written_is}
-use Rattle.lfs_adopt.proofs.draft.Draft.set.Goals as goal
+use Rattle.lfs_adopt.proofs.draft.DraftRewrite.rewrite.Goals as goal
 
 pub index_mut-requires : goal.index_mut-requires
 index_mut-requires c =
