@@ -3,10 +3,10 @@
 use lfs_block::{Image, geometry_ok};
 use lfs_edit::Refusal;
 use lfs_fs::{Limits, MOST_HELD, Mounted, NEW_LIMITS, mount};
-use lfs_host::Out;
 use lfs_json::Form;
 use lfs_listing::send_listing;
 use lfs_pack::{PackRow, least_count, pack, pack_within};
+use lfs_sink::Out;
 use std::alloc::{AllocError, Global};
 
 // what the packed image lists

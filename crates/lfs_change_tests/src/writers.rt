@@ -1,6 +1,6 @@
 //! Writers that misbehave.
 
-use lfs_host::{Out, Sink, send};
+use lfs_sink::{Out, Sink, send};
 use std::alloc::Global;
 use std::io;
 use std::io::{ErrorKind, Write};

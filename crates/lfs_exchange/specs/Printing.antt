@@ -4,7 +4,7 @@ use Rattle.std.specs.Io.KnownBytes.{Appends}
 use Rattle.lfs_exchange.specs.declared.step_kind.StepKind.{StepKind}
 use Rattle.lfs_exchange.specs.declared.step_kind.StepKind.TheVariants.{Asks, Recounts, Adopts}
 use Rattle.lfs_host.specs.Scene.{KeepsAll, KeepsText, Scene}
-use Rattle.lfs_host.specs.Send.{SendsBeginning}
+use Rattle.lfs_sink.specs.Send.{SendsBeginning}
 
 -- a beginning of the text has gone out, or all of it
 abbrev pub PrintsBeginning : Option (List ℕ) → Option (List ℕ) → List ℕ → Type 0

@@ -2,7 +2,8 @@
 
 ghost use Rattle.std.specs.Prelude.{◌≡◌, false, true};
 
-use lfs_host::{Host, HostFault, Sink};
+use lfs_host::{Host, HostFault};
+use lfs_sink::Sink;
 
 /// A host's standard output as a sink: what went out is what the host printed. No write changes which host it is, its files, what is
 /// left on its standard input, what was made, which names are claimed, and that it has failed only where the host has refused something.

@@ -7,8 +7,9 @@ ghost use Rattle.lfs_host.specs.Scene.{HasRefused, KeepsAll, KeepsInput};
 ghost use Rattle.lfs_exchange.specs.Printing.{IsFlushed, PrintsBeginning};
 
 use crate::output::Output;
-use lfs_host::{Host, send};
+use lfs_host::Host;
 use lfs_request::Fault;
+use lfs_sink::send;
 
 /// Writes a text to standard output, and hands it on. Where that is refused, a beginning of it went out, or all of it that
 /// wasn't handed on.

@@ -2,7 +2,8 @@
 
 ghost use Rattle.std.specs.Prelude.{◌≡◌, false, true};
 
-use lfs_host::{NewFolder, Sink};
+use lfs_host::NewFolder;
+use lfs_sink::Sink;
 
 /// The file that a host is making, as a sink: what went out is what was written to the file. No write changes which host it is, what
 /// was made before, files, standard input and what was printed, and that it has failed only where the host has refused something.

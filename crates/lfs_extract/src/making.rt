@@ -4,7 +4,7 @@ ghost use Rattle.std.specs.Prelude.{◌≡◌, [], ◌∷◌, false, not, List, 
 ghost use Rattle.lfs_meta.specs.Attribute.{Attributes};
 ghost use Rattle.lfs_fs.specs.RowHeld.{row_body_held};
 ghost use Rattle.lfs_fs.specs.RowShown.{HasBlocks, shown_node};
-ghost use Rattle.lfs_host.specs.Send.{Sends};
+ghost use Rattle.lfs_sink.specs.Send.{Sends};
 ghost use Rattle.lfs_extract.specs.Making.{held_bytes};
 ghost use Rattle.lfs_host.specs.NewFolder.{BeginsFile, FileMade, Makes};
 ghost use Rattle.lfs_host.specs.Scene.{HasRefused, KeepsFiles};
@@ -14,7 +14,8 @@ use crate::file_sink::FileSink;
 use lfs_block::Blocks;
 use lfs_file::send_blocks;
 use lfs_fs::{Row, RowBody};
-use lfs_host::{HostFault, NewFolder, Sink, send};
+use lfs_host::{HostFault, NewFolder};
+use lfs_sink::{Sink, send};
 
 /// Sends the contents of a row, slice by slice: `true` where they went out, `false` where the sink failed after a beginning of them.
 fn send_contents<B: Blocks, S: Sink>(disk: &B, body: &RowBody<'_>, out: &mut S) -> bool

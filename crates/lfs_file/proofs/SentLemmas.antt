@@ -5,8 +5,8 @@ use Rattle.std.proofs.Math.Seq.{take-append-add}
 use Rattle.std.proofs.lemmas.List.{take-append-le}
 use Rattle.std.specs.List.{concat}
 use Rattle.std.specs.Io.KnownBytes.{Appends}
-use Rattle.lfs_host.specs.Send.{SendsBeginning}
-use Rattle.lfs_host.proofs.SendLemmas.{appends_then}
+use Rattle.lfs_sink.specs.Send.{SendsBeginning}
+use Rattle.lfs_sink.proofs.SendLemmas.{appends_then}
 
 -- one more slice goes out
 pub slice_sent : (a b c : Option (List ℕ)) (text front slice : List ℕ) (later : List (List ℕ)) → front ++ concat (slice ∷ later) ≡ text

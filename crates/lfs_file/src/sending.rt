@@ -2,11 +2,11 @@
 
 ghost use Rattle.std.specs.Prelude.{◌≡◌, ◌<◌, ◌≤◌, All, false, not, length};
 ghost use Rattle.lfs_file.specs.Content.{content};
-ghost use Rattle.lfs_host.specs.Send.{Sends};
+ghost use Rattle.lfs_sink.specs.Send.{Sends};
 
 use crate::file_slices::read_file;
 use lfs_block::Blocks;
-use lfs_host::{Sink, send};
+use lfs_sink::{Sink, send};
 
 /// Sends the contents of a file of `size` bytes in these blocks, slice by slice: `true` where they went out, `false` where the sink
 /// failed after a beginning of them.

@@ -6,4 +6,3 @@ pub mod Failing
 pub mod MemoryFiles
 pub mod MemoryTree
 pub mod MadeEntry
-pub mod Send

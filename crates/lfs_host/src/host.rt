@@ -10,7 +10,7 @@ use crate::host_fault::HostFault;
 use crate::lock::Lock;
 use crate::new_folder::NewFolder;
 use crate::read_fault::ReadFault;
-use crate::text::Text;
+use lfs_sink::Text;
 use std::alloc::Global;
 use std::fmt::Display;
 

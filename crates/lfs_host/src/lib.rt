@@ -1,4 +1,4 @@
-//! What the program needs of the system that it runs on, a host in memory, and sinks: where text goes.
+//! What the program needs of the system that it runs on, and a host in memory.
 #![tactic(auto)]
 
 mod failing;
@@ -12,18 +12,11 @@ mod lock;
 mod made_entry;
 mod memory_files;
 mod memory_host;
-mod memory_sink;
 mod memory_tree;
 mod new_folder;
 mod quoted;
 mod read_fault;
-mod sending;
-mod sink;
-mod text;
 mod told;
-mod waiting;
-mod writer_sink;
-mod writing;
 
 pub use failing::Failing;
 pub use folders::Folders;
@@ -36,14 +29,8 @@ pub use lock::Lock;
 pub use made_entry::MadeEntry;
 pub use memory_files::MemoryFiles;
 pub use memory_host::MemoryHost;
-pub use memory_sink::MemorySink;
 pub use memory_tree::memory_folders_have_no_gap;
 pub use new_folder::NewFolder;
 pub use quoted::Quoted;
 pub use read_fault::ReadFault;
-pub use sending::send;
-pub use sink::Sink;
-pub use text::Text;
 pub use told::Told;
-pub use waiting::{write_later, write_rest, write_text};
-pub use writer_sink::Out;

@@ -5,8 +5,7 @@ ghost use Rattle.lfs_host.specs.Files.{HasRenamed, HasWritten, StaysBut};
 ghost use Rattle.lfs_host.specs.MemoryFiles.{files_of};
 
 use crate::host_fault::HostFault;
-use crate::memory_sink::MemorySink;
-use crate::text::Text;
+use lfs_sink::{MemorySink, Text};
 use std::alloc::{AllocError, Global};
 use std::collections::BTreeMap;
 

@@ -19,7 +19,7 @@ use crate::memory_files::{MemoryFiles, move_file, put, put_text, take};
 use crate::memory_tree::{below, kind_of, names_in};
 use crate::new_folder::NewFolder;
 use crate::read_fault::ReadFault;
-use crate::text::Text;
+use lfs_sink::Text;
 use std::alloc::{AllocError, Global};
 use std::collections::BTreeMap;
 use std::fmt::{Display, Write};

@@ -4,8 +4,8 @@ use Rattle.std.specs.Io.KnownBytes.{Appends}
 use Rattle.std.specs.List.{flat_map}
 use Rattle.std.proofs.lemmas.Grind.{flat_map-append}
 use Rattle.std.proofs.lemmas.List.{take-append-drop, take_more}
-use Rattle.lfs_host.specs.Send.{Sends, SendsBeginning}
-use Rattle.lfs_host.proofs.SendLemmas.{appends_then, sends_front, sends_then}
+use Rattle.lfs_sink.specs.Send.{Sends, SendsBeginning}
+use Rattle.lfs_sink.proofs.SendLemmas.{appends_then, sends_front, sends_then}
 
 -- the texts of one element more
 texts_more : {X : Type 0} (f : X → List ℕ) (xs : List X) (i : ℕ) (x : X) → i < length xs → x ≡ get_or xs i x

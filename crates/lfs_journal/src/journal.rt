@@ -4,7 +4,7 @@ use crate::journal_fault::JournalFault;
 use crate::reading::{head_at, patches_at};
 use crate::writing::{send_journal, write_journal};
 use lfs_block::Patch;
-use lfs_host::{Sink, Text};
+use lfs_sink::{Sink, Text};
 use std::alloc::Global;
 use std::marker::Model;
 

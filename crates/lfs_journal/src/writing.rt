@@ -2,13 +2,13 @@
 
 ghost use Rattle.std.specs.Prelude.{◌≡◌, ◌<◌, ◌^◌, ◌++◌, length, flat_map, false, not, All, IfSome, codes};
 ghost use Rattle.std.specs.Int.{w32, to_le_bytes};
-ghost use Rattle.lfs_host.specs.Send.{Sends};
+ghost use Rattle.lfs_sink.specs.Send.{Sends};
 ghost use Rattle.lfs_journal.specs.Book.{IsBookOf, book_of, change_bytes, patch_bytes, journal_bytes};
 
 use crate::reading::{LETTERS, VERSION};
 use byteorder::{ByteOrder, LittleEndian};
 use lfs_block::{Patch, Record};
-use lfs_host::{MemorySink, Sink, send};
+use lfs_sink::{MemorySink, Sink, send};
 use std::alloc::Global;
 
 /// Sends the change of one block.

@@ -4,9 +4,9 @@ use Rattle.std.proofs.Common.{length-append, arith}
 use Rattle.std.proofs.Math.Seq.{take-append_seam, take-append-add}
 use Rattle.std.proofs.lemmas.List.{take-append-le}
 use Rattle.std.specs.Io.KnownBytes.{Appends}
-use Rattle.lfs_host.specs.Send.{SendsBeginning}
+use Rattle.lfs_sink.specs.Send.{SendsBeginning}
 use Rattle.lfs_listing.specs.Buffer.{SendsFront}
-use Rattle.lfs_host.proofs.SendLemmas.{appends_then, appends_none}
+use Rattle.lfs_sink.proofs.SendLemmas.{appends_then, appends_none}
 
 -- of a whole text something has gone out, something waits, and the rest is to come
 pub record IsUnderWay (old new : Option (List ℕ)) (waits rest complete : List ℕ) : Type 0 where

@@ -9,7 +9,7 @@ use Rattle.lfs_fs.specs.Row.{Row}
 use Rattle.lfs_listing.specs.Buffer.{SendsFront}
 use Rattle.lfs_json.specs.declared.form.Form.{Form}
 use Rattle.lfs_listing.specs.Difference.{difference, is_some_text}
-use Rattle.lfs_host.specs.Send.{SendsBeginning}
+use Rattle.lfs_sink.specs.Send.{SendsBeginning}
 use Rattle.lfs_listing.specs.Unsent.{SendsListing}
 use Rattle.lfs_listing.specs.declared.unsent.Unsent.{Unsent}
 use Rattle.lfs_listing.specs.declared.unsent.Unsent.TheVariants.{CannotWrite}

@@ -2,7 +2,7 @@
 use Rattle.std.proofs.Common.{◌≡◌, ℕ, List, [], Option, Some, Result, Ok, Err, IsErrAnd, MatchResult, sym, subst, ◌∙◌}
 use Rattle.std.specs.Result.{result_err}
 use Rattle.std.specs.Io.KnownBytes.{Appends}
-use Rattle.lfs_host.specs.Send.{SendsBeginning}
+use Rattle.lfs_sink.specs.Send.{SendsBeginning}
 use Rattle.lfs_listing.specs.declared.unsent.Unsent.{Unsent}
 use Rattle.lfs_listing.specs.declared.unsent.Unsent.TheVariants.{Memory, CannotWrite}
 use Rattle.lfs_listing.specs.Unsent.{SendsListing}

@@ -11,8 +11,8 @@ use crate::gathering::users_with_parts;
 use crate::runs::send_runs;
 use crate::unsent::Unsent;
 use lfs_fs::{Mounted, outlines_are_sound};
-use lfs_host::Sink;
 use lfs_json::Form;
+use lfs_sink::Sink;
 use std::alloc::Global;
 
 /// Sends which block of a mounted image holds what: a line for each run of blocks of one user, from block 0 on. It has the number of the

@@ -18,8 +18,8 @@ use crate::runs::append_number;
 use crate::summing::sums_of;
 use crate::unsent::Unsent;
 use lfs_fs::{Mounted, Row, Rows, outlines_are_sound};
-use lfs_host::Sink;
 use lfs_json::{Form, append_json_free_sum, append_json_sum};
+use lfs_sink::Sink;
 use std::alloc::{AllocError, Global};
 
 /// Adds the line of a row at a path that takes so many blocks.

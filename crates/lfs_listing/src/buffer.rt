@@ -2,12 +2,12 @@
 
 ghost use Rattle.std.specs.Prelude.{◌≡◌, ◌≤◌, [], false, length, OnOk, MatchResult, is_err};
 ghost use Rattle.std.specs.Io.KnownBytes.{Appends};
-ghost use Rattle.lfs_host.specs.Send.{SendsBeginning};
+ghost use Rattle.lfs_sink.specs.Send.{SendsBeginning};
 ghost use Rattle.lfs_listing.specs.Buffer.{SendsFront};
 ghost use Rattle.lfs_listing.specs.declared.unsent.Unsent.TheVariants.{CannotWrite};
 
 use crate::unsent::Unsent;
-use lfs_host::{Sink, send};
+use lfs_sink::{Sink, send};
 
 /// How many bytes wait at most before they go out.
 const FULL: usize = 65_536;

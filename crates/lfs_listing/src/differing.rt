@@ -16,8 +16,8 @@ use crate::merging::append_next;
 use crate::unsent::Unsent;
 use lfs_block::{Blocks, Patch};
 use lfs_fs::{Mounted, Rows, rows_show_the_tree};
-use lfs_host::Sink;
 use lfs_json::Form;
+use lfs_sink::Sink;
 use std::alloc::{AllocError, Global};
 
 /// An image with what it mounts to.

@@ -14,8 +14,8 @@ use crate::digested_lines::append_digested_row;
 use crate::unsent::Unsent;
 use lfs_block::Blocks;
 use lfs_fs::Rows;
-use lfs_host::Sink;
 use lfs_json::Form;
+use lfs_sink::Sink;
 use std::alloc::Global;
 
 /// Sends the listing of rows whose contents can be read on a disk.

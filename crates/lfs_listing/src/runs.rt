@@ -11,8 +11,8 @@ use crate::buffer::{send_if_full, send_rest};
 use crate::row_parts::RowParts;
 use crate::unsent::Unsent;
 use itoa::Buffer;
-use lfs_host::Sink;
 use lfs_json::{Form, append_json_run};
+use lfs_sink::Sink;
 use std::alloc::{AllocError, Global};
 
 /// Adds a number.

@@ -10,8 +10,8 @@ use crate::buffer::{send_if_full, send_rest};
 use crate::lines::append_row;
 use crate::unsent::Unsent;
 use lfs_fs::Rows;
-use lfs_host::Sink;
 use lfs_json::Form;
+use lfs_sink::Sink;
 use std::alloc::Global;
 
 /// Sends the listing of the rows that are at a path or below: for each a line with `d` for a directory or `f` for a file, its size in bytes

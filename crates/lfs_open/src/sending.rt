@@ -7,8 +7,8 @@ ghost use Rattle.lfs_open.specs.FoundText.{found_text};
 
 use crate::lines::append_found;
 use lfs_find::Found;
-use lfs_host::{Sink, send};
 use lfs_listing::Unsent;
+use lfs_sink::{Sink, send};
 use std::alloc::{AllocError, Global};
 
 /// The lines of all that is found.

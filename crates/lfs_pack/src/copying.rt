@@ -19,8 +19,8 @@ use crate::source_row::SourceRow;
 use lfs_block::Blocks;
 use lfs_file::send_blocks;
 use lfs_fs::{Mounted, Row, RowBody, Rows, follow, rows_show_the_tree};
-use lfs_host::MemorySink;
 use lfs_meta::Attribute;
+use lfs_sink::MemorySink;
 use std::alloc::{AllocError, Global};
 
 /// Turns the path of a row into that of the next one.

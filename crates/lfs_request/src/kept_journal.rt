@@ -1,7 +1,7 @@
 //! The journal that is kept behind a run.
 
-use lfs_host::{Sink, Text, send};
 use lfs_journal::Journal;
+use lfs_sink::{Sink, Text, send};
 use std::alloc::Global;
 use std::marker::Model;
 

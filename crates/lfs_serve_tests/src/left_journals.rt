@@ -4,7 +4,7 @@ use lfs_block::geometry_ok;
 use lfs_command::Command;
 use lfs_edit::format;
 use lfs_history::Move;
-use lfs_host::MemorySink;
+use lfs_sink::MemorySink;
 use lfs_step::{Step, run};
 use std::alloc::Global;
 

@@ -8,7 +8,7 @@ use Rattle.lfs_block.proofs.BytesLemmas.{at_bytes, image_of_disk}
 use Rattle.lfs_journal.specs.Book.{book_of}
 use Rattle.lfs_history.specs.History.{fresh_history}
 use Rattle.lfs_history.specs.Opening.{journal_of}
-use Rattle.lfs_host.specs.Send.{Sends, SendsBeginning}
+use Rattle.lfs_sink.specs.Send.{Sends, SendsBeginning}
 use Rattle.lfs_adopt.specs.Adopted.{IsAdoptedImage}
 use Rattle.lfs_adopt.specs.Changed.{changed_blocks}
 use Rattle.lfs_json.specs.declared.form.Form.{Form}

@@ -6,7 +6,7 @@ use Rattle.lfs_block.specs.Disk.{Disk}
 use Rattle.lfs_fs.specs.Mounted.{MountedValue, IsMountOf}
 use Rattle.lfs_request.specs.Fault.{blames_output}
 use Rattle.lfs_request.specs.declared.fault.Fault.{Fault}
-use Rattle.lfs_host.specs.Send.{Sends}
+use Rattle.lfs_sink.specs.Send.{Sends}
 use Rattle.lfs_json.specs.declared.form.Form.{Form}
 use Rattle.lfs_request.specs.declared.query.Query.TheVariants.{Check}
 use Rattle.lfs_step.specs.Query.{RefusesReport, SendsReport, end_of_check}

@@ -12,7 +12,7 @@ use Rattle.lfs_json.specs.declared.form.Form.{Form}
 use Rattle.lfs_request.specs.declared.fault.Fault.{Fault}
 use Rattle.lfs_request.specs.declared.fault.Fault.TheVariants.{Image, JournalHasChanges, CannotWrite}
 use Rattle.lfs_request.specs.declared.outcome.Outcome.{Outcome}
-use Rattle.lfs_host.specs.Send.{SendsBeginning}
+use Rattle.lfs_sink.specs.Send.{SendsBeginning}
 use Rattle.lfs_change.specs.Adopting.{RefusesAdopting}
 use Rattle.lfs_step.specs.ChangedText.{changed_text}
 

@@ -18,7 +18,7 @@ use Rattle.lfs_listing.specs.Difference.{difference, is_some_text}
 use Rattle.lfs_request.specs.declared.fault.Fault.{Fault}
 use Rattle.lfs_request.specs.declared.fault.Fault.TheVariants.{Mount, Refused, CannotWrite, Other, Differ}
 use Rattle.lfs_request.specs.declared.other_fault.OtherFault.TheVariants as other
-use Rattle.lfs_host.specs.Send.{SendsBeginning}
+use Rattle.lfs_sink.specs.Send.{SendsBeginning}
 use Rattle.lfs_listing.specs.declared.unsent.Unsent.{Unsent}
 use Rattle.lfs_step.specs.Query.{HasMount, fault_of_unsent}
 

@@ -15,7 +15,7 @@ use Rattle.lfs_request.specs.declared.fault.Fault.{Fault}
 use Rattle.lfs_request.specs.declared.fault.Fault.TheVariants.{Mount, Refused, CannotWrite, Differ}
 use Rattle.lfs_request.specs.Query.{Question}
 use Rattle.lfs_request.specs.declared.query.Query.TheVariants.{Check, Ls, Blocks, Cat}
-use Rattle.lfs_host.specs.Send.{SendsBeginning}
+use Rattle.lfs_sink.specs.Send.{SendsBeginning}
 use Rattle.lfs_step.specs.Contents.{IsContents, RefusesContents}
 use Rattle.lfs_request.specs.Standing.{RefusesListing}
 use Rattle.lfs_step.specs.Listed.{IsListing}

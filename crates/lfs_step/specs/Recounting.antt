@@ -9,7 +9,7 @@ use Rattle.lfs_history.specs.declared.open_fault.OpenFault.TheVariants as openin
 use Rattle.lfs_request.specs.declared.fault.Fault.{Fault}
 use Rattle.lfs_request.specs.declared.fault.Fault.TheVariants.{Mount, Refused, JournalFormat, JournalMismatch, JournalImage, CannotWrite}
 use Rattle.lfs_change.specs.Change.{DenotesOn, RefusesJournal}
-use Rattle.lfs_host.specs.Send.{SendsBeginning}
+use Rattle.lfs_sink.specs.Send.{SendsBeginning}
 use Rattle.lfs_json.specs.declared.form.Form.{Form}
 use Rattle.lfs_step.specs.Log.{IsHistoryLog}
 

@@ -3,7 +3,7 @@ use Rattle.std.specs.Prelude.{ℕ, Bool, false, not, List, Option, Result, Ok, E
 use Rattle.std.specs.Io.KnownBytes.{Keeps}
 use Rattle.lfs_block.specs.Disk.{Disk}
 use Rattle.lfs_command.specs.declared.refusal.Refusal.{Refusal}
-use Rattle.lfs_host.specs.Send.{Sends}
+use Rattle.lfs_sink.specs.Send.{Sends}
 use Rattle.lfs_step.specs.Contents.{IsContents}
 
 -- all contents at a path, or a beginning of them; with a refusal nothing

@@ -15,10 +15,10 @@ use crate::sending::sent_complete;
 use lfs_adopt::put_drafted;
 use lfs_block::{Blocks, Image};
 use lfs_change::{Adoption, adopted};
-use lfs_host::{Sink, send};
 use lfs_journal::Journal;
 use lfs_json::Form;
 use lfs_request::{Fault, Outcome};
+use lfs_sink::{Sink, send};
 use std::alloc::Global;
 
 /// The length of a journal without changes.

@@ -21,9 +21,9 @@ use lfs_block::{
 };
 use lfs_fs::Mounted;
 use lfs_history::OpenFault;
-use lfs_host::MemorySink;
 use lfs_json::Form;
 use lfs_listing::{MountedImage, send_difference};
+use lfs_sink::MemorySink;
 use std::alloc::Global;
 
 /// Adds the line of a change, and what differs between the image before it and the one after it.

@@ -19,10 +19,10 @@ use crate::sending::fault_of_listing;
 use lfs_block::{Image, MountFault};
 use lfs_command::Refusal;
 use lfs_fs::{Limits, Mounted, mount};
-use lfs_host::Sink;
 use lfs_json::{Form, append_json_limits};
 use lfs_listing::{MountedImage, Unsent, have_difference, send_difference};
 use lfs_request::{Fault, OtherFault};
+use lfs_sink::Sink;
 use std::alloc::{AllocError, Global};
 use std::mem::forget;
 

@@ -8,7 +8,7 @@ ghost use Rattle.lfs_fs.specs.OutlineHeld.{outline_body_held};
 ghost use Rattle.lfs_fs.specs.RowShown.{HasBlocks, shown_body};
 ghost use Rattle.lfs_fs.specs.Tree.{Dir, File};
 ghost use Rattle.lfs_command.specs.declared.refusal.Refusal.TheVariants.{IsADirectory, Memory};
-ghost use Rattle.lfs_host.specs.Send.{Sends};
+ghost use Rattle.lfs_sink.specs.Send.{Sends};
 ghost use Rattle.lfs_step.specs.Contents.{IsContents, RefusesContents};
 ghost use Rattle.lfs_step.specs.Sent.{SendsContents, has_failed};
 
@@ -17,8 +17,8 @@ use lfs_command::{Refusal, names_of};
 use lfs_draft::entry_there;
 use lfs_file::send_blocks;
 use lfs_fs::{Mounted, OutlineBody, outlines_are_sound, rows_show_the_tree};
-use lfs_host::{Sink, send};
 use lfs_law::outlines_are_judged_alike;
+use lfs_sink::{Sink, send};
 use std::alloc::Global;
 
 /// Sends the contents of the file whose body this is: `IsADirectory` where it is a directory's.

@@ -5,8 +5,8 @@ ghost use Rattle.lfs_json.specs.declared.form.Form.TheVariants.{Text};
 ghost use Rattle.lfs_step.specs.Log.{change_line};
 
 use itoa::Buffer;
-use lfs_host::{MemorySink, send};
 use lfs_json::{Form, append_json_step};
+use lfs_sink::{MemorySink, send};
 use std::alloc::Global;
 
 /// What a line says of a change where the first `done` are done.

@@ -11,9 +11,9 @@ use crate::mounting::erased_block;
 use lfs_block::{Blocks, Image};
 use lfs_fs::mounted_images_have_no_cause;
 use lfs_history::OpenFault;
-use lfs_host::MemorySink;
 use lfs_json::Form;
 use lfs_session::{Changes, read_changes};
+use lfs_sink::MemorySink;
 use std::alloc::Global;
 
 /// The text of the history that the bytes of a journal denote on an image: for each change, from the oldest on, a line with its number and

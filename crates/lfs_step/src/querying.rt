@@ -22,12 +22,12 @@ use crate::sending::{fault_of_listing, sent_complete};
 use crate::summary::{check_text, has_longer};
 use lfs_block::Image;
 use lfs_fs::{Mounted, mount};
-use lfs_host::{Sink, send};
 use lfs_json::Form;
 use lfs_listing::{
     MountedImage, Unsent, send_block_map, send_block_sums, send_digests, send_listing,
 };
 use lfs_request::{Fault, Outcome, Place, Query, names_there};
+use lfs_sink::{Sink, send};
 use std::alloc::Global;
 use std::mem::forget;
 

@@ -11,9 +11,9 @@ use crate::sending::sent_complete;
 use lfs_block::{Blocks, Image};
 use lfs_fs::mount;
 use lfs_history::OpenFault;
-use lfs_host::{Sink, send};
 use lfs_json::Form;
 use lfs_request::Fault;
+use lfs_sink::{Sink, send};
 use std::alloc::Global;
 
 /// Tells what the changes in a journal changed of an image, which stands again as it was. An empty journal is one without changes; the

@@ -29,10 +29,10 @@ use lfs_change::{
 use lfs_command::Refusal;
 use lfs_edit::format_within;
 use lfs_fs::Limits;
-use lfs_host::Sink;
 use lfs_journal::write_journal;
 use lfs_pack::{PackRow, pack_within};
 use lfs_request::{Fault, Outcome};
+use lfs_sink::Sink;
 use std::alloc::Global;
 
 /// Takes one step on an image and its journal, with blocks of `size` bytes. What it says goes to `out`, and the caller owes that this has

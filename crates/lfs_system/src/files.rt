@@ -1,7 +1,7 @@
 //! Files that runs of the program don't take from each other.
 
 use crate::folders::parent;
-use lfs_host::{Text, write_text};
+use lfs_sink::{Text, write_text};
 use std::fs::{self, File, Metadata, TryLockError};
 use std::io::{self, ErrorKind, Read};
 use std::os::unix::fs::{MetadataExt, fchown};

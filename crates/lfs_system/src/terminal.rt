@@ -8,9 +8,9 @@ use crate::folders::{is_below, is_other, kind_of, names_in};
 use crate::standard::{Closed, is_closed};
 use lfs_block::MAX_IMAGE_LENGTH;
 use lfs_host::{
-    Folders, Host, HostFault, HostKind, Known, ListFault, Lock, NewFolder, Out, ReadFault, Sink,
-    Text, Told, write_later, write_rest,
+    Folders, Host, HostFault, HostKind, Known, ListFault, Lock, NewFolder, ReadFault, Told,
 };
+use lfs_sink::{Out, Sink, Text, write_later, write_rest};
 use std::alloc::{AllocError, Global};
 use std::fmt::Display;
 use std::fs::{self, File};

@@ -1,8 +1,8 @@
 -- What stands before the changes goes out, and then they.
 use Rattle.std.proofs.Common.{◌≡◌, ◌-◌, ◌∙◌, ap, sym, subst, ◌++◌, List, ℕ, length, arith}
 use Rattle.std.specs.List.{flat_map}
-use Rattle.lfs_host.specs.Send.{Sends, SendsBeginning}
-use Rattle.lfs_host.proofs.SendLemmas.{sends_front, sends_then}
+use Rattle.lfs_sink.specs.Send.{Sends, SendsBeginning}
+use Rattle.lfs_sink.proofs.SendLemmas.{sends_front, sends_then}
 use Rattle.lfs_journal.specs.Book.{book_of, journal_bytes, patch_bytes}
 use Rattle.lfs_journal.proofs.Books.{book_of-spelled}
 use Rattle.lfs_journal.proofs.writing.send_few.Goals as goal

@@ -2,8 +2,8 @@
 use Rattle.std.proofs.Common.{rules, ◌≡◌, subst, ◌++◌, List, ℕ}
 use Rattle.std.specs.List.{flat_map}
 use Rattle.lfs_block.specs.Change.{Change}
-use Rattle.lfs_host.specs.Send.{Sends, SendsBeginning}
-use Rattle.lfs_host.proofs.SendLemmas.{sends_front, sends_then}
+use Rattle.lfs_sink.specs.Send.{Sends, SendsBeginning}
+use Rattle.lfs_sink.proofs.SendLemmas.{sends_front, sends_then}
 use Rattle.lfs_journal.specs.Book.{change_bytes}
 use Rattle.lfs_journal.proofs.writing.send_patch.Goals as goal
 

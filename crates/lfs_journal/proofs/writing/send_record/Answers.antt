@@ -1,7 +1,7 @@
 -- A block's number, its bytes before and its bytes after go out one behind another.
 use Rattle.std.proofs.Common.{rules, ◌≡◌, ◌++◌, subst, List, ℕ}
 use Rattle.std.specs.Int.{w32, to_le_bytes}
-use Rattle.lfs_host.specs.Send.{Sends, SendsBeginning}
+use Rattle.lfs_sink.specs.Send.{Sends, SendsBeginning}
 use Rattle.lfs_journal.proofs.Sent.{second_partly, third_sent}
 use Rattle.lfs_journal.proofs.writing.send_record.Goals as goal
 

@@ -5,7 +5,7 @@ use Rattle.lfs_step.specs.Comparing.{form_of, image_difference, said_text}
 use Rattle.std.specs.Io.KnownBytes.{Appends}
 use Rattle.lfs_listing.proofs.BufferLemmas.{under_way}
 use Rattle.lfs_listing.proofs.UnsentLemmas.{refused}
-use Rattle.lfs_host.proofs.SendLemmas.{appends_none}
+use Rattle.lfs_sink.proofs.SendLemmas.{appends_none}
 use Rattle.lfs_step.proofs.comparing.say_difference.Goals as goal
 
 pub returns-in_err-have_image_difference-in-None-clause-sent : goal.returns-in_err-have_image_difference-in-None-clause-sent

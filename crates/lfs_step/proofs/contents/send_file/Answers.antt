@@ -10,7 +10,7 @@ use Rattle.lfs_block.specs.Disk.{Disk}
 use Rattle.lfs_meta.specs.Attribute.{Attributes}
 use Rattle.lfs_fs.specs.Tree.{File}
 use Rattle.lfs_command.specs.declared.refusal.Refusal.{Refusal}
-use Rattle.lfs_host.specs.Send.{Sends}
+use Rattle.lfs_sink.specs.Send.{Sends}
 use Rattle.lfs_meta.specs.Name.{Name}
 use Rattle.lfs_fs.specs.Entry.{Entry, Body}
 use Rattle.lfs_fs.specs.Path.{Path}

@@ -1,6 +1,6 @@
 -- A text that didn't go out as a whole is told as that, and a file that is longer than is asked.
 use Rattle.std.proofs.Common.{List, ap, subst, sym, ℕ, ◌∙◌}
-use Rattle.lfs_host.specs.Send.{Sends}
+use Rattle.lfs_sink.specs.Send.{Sends}
 use Rattle.std.specs.Result.{result_err}
 use Rattle.lfs_request.specs.Fault.{blames_output}
 use Rattle.lfs_step.proofs.SayingLemmas.{check_ends, check_refused, check_sent}

@@ -1,0 +1,2 @@
+pub mod SendLemmas
+pub mod WaitingLemmas
