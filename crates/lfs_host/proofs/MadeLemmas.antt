@@ -127,7 +127,7 @@ ends_with name bytes [] (m ∷ n ∷ new) same is = absurd (some_left n new cc)
 ends_with name bytes (m ∷ []) [] same is = absurd cc
 ends_with name bytes (m ∷ n ∷ ms) [] same is = absurd cc
 ends_with name bytes (m ∷ []) (n ∷ []) same is = absurd cc
-ends_with name bytes (m ∷ o ∷ ms) (n ∷ []) same is = absurd cc
+ends_with name bytes (m ∷ o ∷ ms) (n ∷ []) same is = absurd (some_left o (ms ++ FileMade name [] ∷ []) (cc))
 ends_with name bytes (m ∷ []) (n ∷ p ∷ new) same is = by (cc) (ends_with name bytes [] (p ∷ new) (cc) is)
   where
     by : n ≡ m → p ∷ new ≡ FileMade name bytes ∷ [] → n ∷ p ∷ new ≡ m ∷ FileMade name bytes ∷ []
