@@ -30,3 +30,8 @@ same_keeps old new same other is = subst (λ (r : Option (HostCall → Bool)). I
 pub noted_keeps : (failed : Bool) (call : HostCall) (old new : Scene) → Notes call failed old new → KeepsRefusals old new
 noted_keeps true call old new notes = notes.1
 noted_keeps false call old new same = same_keeps old new same
+
+-- a call that is noted was refused
+pub noted_refused : (failed : Bool) (call : HostCall) (old new : Scene) → failed ≡ true → Notes call failed old new → HasRefused new call
+noted_refused true call old new is notes = notes.0
+noted_refused false call old new is notes = absurd cc
