@@ -120,15 +120,15 @@ IsUnreadBy call scene CannotRead = HasRefused scene call
 IsUnreadBy call scene (Refused refusal) = refusal ≡ Memory
 IsUnreadBy call scene _ = ⊥
 
--- the host has refused to read something, or memory was refused
-abbrev pub IsUnread : Scene → Fault → Type 0
-IsUnread scene fault = (call : HostCall) × IsUnreadBy call scene fault
-
 -- the call that reads a source of contents
 abbrev pub source_call : Source → HostCall
 source_call Input = ReadingInput
 source_call (File name) = ReadingContents name.now
 source_call (Said bytes) = ReadingInput
+
+-- the host has refused to read some contents, or memory was refused
+abbrev pub IsUnread : Scene → Fault → Type 0
+IsUnread scene fault = (source : Source) × IsUnreadBy (source_call source) scene fault
 
 -- the call that reads what a step on a history puts
 abbrev pub input_call : Move Source → HostCall
@@ -139,10 +139,14 @@ input_call _ = ReadingInput
 abbrev pub IsOtherUnread : Scene → List ℕ → Fault → Type 0
 IsOtherUnread scene name fault = (fault ≡ Refused Memory) ⊎ ((fault ≡ Other other.CannotRead) × HasRefused scene (Reading name))
 
--- why the other image of a query isn't read
+-- the host has refused to read the other image of a query
+abbrev pub HasRefusedOther : Query (Bor (List ℕ)) → Scene → Type 0
+HasRefusedOther (Diff name size quiet) scene = HasRefused scene (Reading name.now)
+HasRefusedOther _ scene = ⊥
+
+-- why that isn't read
 abbrev pub IsQueryUnread : Query (Bor (List ℕ)) → Scene → Fault → Type 0
-IsQueryUnread (Diff name size quiet) scene fault = IsOtherUnread scene name.now fault
-IsQueryUnread _ scene fault = ⊥
+IsQueryUnread query scene fault = (fault ≡ Refused Memory) ⊎ ((fault ≡ Other other.CannotRead) × HasRefusedOther query scene)
 
 -- the host has refused to hand on what was printed, or to write the image of this name or its journal, or to give them their places
 abbrev pub HasRefusedStore : Scene → List ℕ → Type 0

@@ -7,7 +7,7 @@ ghost use Rattle.lfs_request.specs.declared.other_fault.OtherFault.TheVariants a
 ghost use Rattle.lfs_fs.specs.Limits.{most_file};
 ghost use Rattle.lfs_host.specs.Files.{FindsFile, IsMissing, IsTarget, ReadsFile, ReadsFrom, ReadsInput};
 ghost use Rattle.lfs_host.specs.HostCall.{Finding, ReadingContents, ReadingInput, Sparing};
-ghost use Rattle.lfs_host.specs.Scene.{HasClaimed, HasRefused, KeepsAll, KeepsOutput, KeepsSeen, KeepsTally};
+ghost use Rattle.lfs_host.specs.Scene.{HasClaimed, HasRefused, IsCovered, KeepsAll, KeepsOutput, KeepsSeen, KeepsTally};
 ghost use Rattle.lfs_exchange.specs.Handing.{HandsImage, HandsInput, HandsJournal, HandsQuestion, HandsSource, IsClaimed, IsHanded, IsNotAimed, IsNotLocked};
 ghost use Rattle.lfs_exchange.specs.Handing.{IsChanging, IsNotTakenUp, IsOtherUnread, IsQueryUnread, IsUnreadBy, IsUnreadFor, input_call, source_call, LeavesInput, LeavesSource, fault_at, fault_of_reading, most_image};
 ghost use Rattle.lfs_exchange.specs.declared.step_kind.StepKind.TheVariants.{Makes};
@@ -281,6 +281,7 @@ pub fn read_other<H: Host>(
 ) -> Result<Vec<u8>, Fault>
     ensures bytes { IfOk result (λ bytes. ReadsFrom (H.known host.old).files name.now place most_image bytes.items) }
     ensures refused { IfErr result (IsOtherUnread (H.known host.new) name.now) }
+    ensures tally { IsCovered (H.known host.old) name.now → KeepsTally (H.known host.old) (H.known host.new) }
     ensures kept { KeepsAll (H.known host.old) (H.known host.new) }
 {
     match host.read(alloc, name, place, MAX_IMAGE_LENGTH) {
