@@ -206,7 +206,7 @@ adds_more d before mid after old here new starts i start within is h k =
 -- ---- the tails of one area more
 
 module _ (areas : List Area) (next : ℕ) (a : Area) (within : next < length areas) (is : a ≡ get_or areas next a) where
-  -- those of the areas in front, where others are added
+  -- those of the areas in front, if others are added
   pub tails_front : (more : List Area) → tails_behind (take (next + 1) (areas ++ more)) ≡ tails_behind (take next areas) ++ area_tails a
   tails_front more =
       ap tails_behind (take-append-le (next + 1) areas more (omega (arith, within)) ∙ take_more areas next a within
@@ -214,7 +214,7 @@ module _ (areas : List Area) (next : ℕ) (a : Area) (within : next < length are
       ∙ flat_map-append area_tails (take next areas) (a ∷ [])
       ∙ ap (λ (ps : List Pair). tails_behind (take next areas) ++ ps) (append-nil (area_tails a))
 
-  -- areas begin along all tails, where those in front aren't open
+  -- areas begin along all tails, if those in front aren't open
   pub along_next : (d : Disk) (now : List Bool) (starts : List Pair) (more : List Area)
       → All (λ p. is_open now p ≡ false) (starts ++ tails_behind (take next areas)) → BeginAmong d now (area_tails a) more
       → BeginIn d now (starts ++ tails_behind areas) more

@@ -76,7 +76,7 @@ abbrev pub HoldsAs : Disk → Pair → Option (Pair × StoredPart) → Type 0
 HoldsAs d pair None = stored_part_of d pair ≡ None
 HoldsAs d pair (Some p) = stored_part_of d pair ≡ Some p.1
 
--- Areas, each of which begins at the first open pair of these and, after them, of those to which the thread goes on behind the areas before
+-- Areas, each of which begins at the first open pair of these and, after them, of those to which the thread goes on after the areas before
 -- it; none of these is left open.
 pub record AreAlong (d : Disk) (before after : List Bool) (starts : List Pair) (areas : List Area) : Type 0 where
   pub begin : BeginIn d before starts areas

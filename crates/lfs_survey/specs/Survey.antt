@@ -48,7 +48,7 @@ BeginAmong d looked starts [] = Unit {0}
 BeginAmong d looked starts (a ∷ more) = (start : Pair) × (first_open looked starts ≡ Some start) × IsArea d looked start a
     × BeginAmong d (behind_area looked a) starts more
 
--- the same of these pairs and, after them, of those to which the thread goes on behind the areas before
+-- the same of these pairs and, after them, of those to which the thread goes on after the areas before
 abbrev pub BeginIn : Disk → List Bool → List Pair → List Area → Type 0
 BeginIn d looked starts [] = Unit {0}
 BeginIn d looked starts (a ∷ more) = (start : Pair) × (first_open looked starts ≡ Some start) × IsArea d looked start a
@@ -73,7 +73,7 @@ tails_behind areas = flat_map area_tails areas
 abbrev pub unlooked : Disk → List Bool
 unlooked d = replicate d.count false
 
--- The first area is the root's; each other one begins at the first open pair of those to which the thread goes on behind the areas before
+-- The first area is the root's; each other one begins at the first open pair of those to which the thread goes on after the areas before
 -- it; these blocks were looked at; and no pair to which the thread goes on is left open.
 pub record IsSurvey (d : Disk) (s : Survey) : Type 0 where
   pub first : Area

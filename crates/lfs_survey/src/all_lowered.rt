@@ -30,7 +30,7 @@ fn image_like(image: &Image, bytes: Vec<u8>) -> Image
     made
 }
 
-/// A copy of an image with each of its blocks lowered: where the thread is broken, what stands behind that is read too. Takes memory.
+/// A copy of an image with each of its blocks lowered: if the thread is broken, what stands after that is read too. Takes memory.
 pub(crate) fn all_lowered(alloc: Global, image: &Image) -> Result<Image, AllocError>
     ensures { IfOk result (λ parts. IsLoweredThrough image.now.disk parts.disk) }
 {
