@@ -1,20 +1,13 @@
--- Why the file that a name leads to isn't at hand.
-use Rattle.std.proofs.Common.{ℕ, List, Option, Some, None, refl, ◌∙◌}
+-- Names that lead to files, and what is read by them once they are claimed.
+use Rattle.std.proofs.Common.{◌≡◌, ℕ, List, ◌++◌, Option, Some, None, refl, sym, append-nil}
 use Rattle.lfs_host.specs.Files.{Files, IsTarget}
-use Rattle.lfs_host.specs.Scene.{Scene}
-use Rattle.lfs_exchange.specs.Handing.{HasRefusedTarget}
+use Rattle.lfs_host.specs.Scene.{HasClaimed, IsCovered, Scene}
+use Rattle.lfs_exchange.specs.Storing.{journal_name}
 
--- ---- what the host refuses of a name
+-- the claimed name itself is covered
+pub covers_itself : (s : Scene) (name : List ℕ) → HasClaimed s name → IsCovered s name
+covers_itself s name claimed = (name, [], sym (append-nil name), claimed)
 
-itself : (files : Option Files) (name : List ℕ) → IsTarget files name name
-itself None name = tt
-itself (Some files) name = refl
-
--- ---- a name that leads to another
-
-leads_on : (files : Option Files) (name target at : List ℕ) → IsTarget files name target → IsTarget files target at → IsTarget files name at
-leads_on None name target at first then = tt
-leads_on (Some files) name target at first then = then ∙ first
-
-refused_at : (s : Scene) (name target : List ℕ) → IsTarget s.files name target → HasRefusedTarget s target → HasRefusedTarget s name
-refused_at s name target leads (refused, (at, on, file)) = (refused, (at, leads_on s.files name target at leads on, file))
+-- so is that of its journal
+pub covers_journal : (s : Scene) (name at : List ℕ) → at ≡ journal_name name → HasClaimed s name → IsCovered s at
+covers_journal s name at is claimed = (name, _, is, claimed)

@@ -20,8 +20,9 @@ use Rattle.lfs_request.specs.Query.{Question}
 use Rattle.lfs_host.specs.declared.read_fault.ReadFault.{ReadFault}
 use Rattle.lfs_host.specs.declared.read_fault.ReadFault.TheVariants as reading
 use Rattle.lfs_host.specs.Files.{Files, FindsFile, IsMissing, IsTarget, ReadsFile, ReadsFrom, ReadsInput}
-use Rattle.lfs_host.specs.Scene.{HasClaimed, HasRefused, HasRefusedFile, HasWithheld, Scene}
-use Rattle.lfs_exchange.specs.Storing.{journal_name}
+use Rattle.lfs_host.specs.HostCall.{Aiming, Finding, Flushing, HostCall, Locking, Reading, ReadingContents, ReadingInput, Renaming, Settling, Writing}
+use Rattle.lfs_host.specs.Scene.{HasClaimed, HasRefused, HasWithheld, Scene}
+use Rattle.lfs_exchange.specs.Storing.{journal_name, new_name}
 
 -- the most bytes that an image has
 abbrev pub most_image : ℕ
@@ -32,6 +33,12 @@ abbrev pub IsClaimed : StepKind → Scene → List ℕ → Type 0
 IsClaimed Asks scene name = ⊤
 IsClaimed Recounts scene name = ⊤
 IsClaimed _ scene name = HasClaimed scene name
+
+-- an image is to be changed, or its journal is, or it is made
+abbrev pub IsChanging : StepKind → Type 0
+IsChanging Asks = ⊥
+IsChanging Recounts = ⊥
+IsChanging _ = ⊤
 
 -- the bytes of an image that a step is handed: those of its file from a place on, none where the image is made
 abbrev pub HandsImage : StepKind → ℕ → Option Files → List ℕ → List ℕ → Type 0
@@ -95,68 +102,6 @@ pub record IsHanded (kind : StepKind) (place : ℕ) (name : List ℕ) (s : Scene
   pub image : HandsImage kind place s.files name h.image
   pub journal : HandsJournal kind s.files name h.journal
 
--- ---- faults of the host
-
--- the host has refused to read, or memory was wanting
-abbrev pub IsUnread : Scene → Fault → Type 0
-IsUnread scene CannotRead = HasRefused scene
-IsUnread scene (Refused refusal) = refusal ≡ Memory
-IsUnread scene _ = ⊥
-
--- the host has refused to write, or memory was wanting
-abbrev pub IsUnwritten : Scene → Fault → Type 0
-IsUnwritten scene CannotWrite = HasRefused scene
-IsUnwritten scene (Refused refusal) = refusal ≡ Memory
-IsUnwritten scene _ = ⊥
-
--- the same of the image that another is compared with, or made of
-abbrev pub IsOtherUnread : Scene → Fault → Type 0
-IsOtherUnread scene fault = IsUnread scene fault ⊎ ((fault ≡ Other other.CannotRead) × HasRefused scene)
-
--- the lock of a file is withheld
-abbrev pub IsWithheld : Scene → Fault → Type 0
-IsWithheld scene fault = (fault ≡ CannotWrite) × HasWithheld scene
-
--- the host has refused something of the file that a name leads to
-abbrev pub HasRefusedTarget : Scene → List ℕ → Type 0
-HasRefusedTarget scene name = HasRefused scene × ((at : List ℕ) × IsTarget scene.files name at × HasRefusedFile scene at)
-
--- it isn't found, to be read: the host has refused that, or memory was wanting
-abbrev pub IsUnfound : Scene → List ℕ → Fault → Type 0
-IsUnfound scene name CannotRead = HasRefusedTarget scene name
-IsUnfound scene name (Refused refusal) = refusal ≡ Memory
-IsUnfound scene name _ = ⊥
-
--- the same of one that is made
-abbrev pub IsUnplaced : Scene → List ℕ → Fault → Type 0
-IsUnplaced scene name CannotWrite = HasRefusedTarget scene name
-IsUnplaced scene name (Refused refusal) = refusal ≡ Memory
-IsUnplaced scene name _ = ⊥
-
--- why the lock of a file isn't got: so, or there is no such file; one that is made need not be there
-abbrev pub IsNoLock : StepKind → Scene → List ℕ → Fault → Type 0
-IsNoLock Makes scene name fault = IsUnplaced scene name fault
-IsNoLock _ scene name fault = IsUnfound scene name fault ⊎ ((fault ≡ CannotRead) × IsMissing scene.files name)
-
--- why it isn't locked: the lock is withheld, or isn't got
-abbrev pub IsNotLocked : StepKind → Scene → List ℕ → Fault → Type 0
-IsNotLocked kind scene name fault = IsWithheld scene fault ⊎ IsNoLock kind scene name fault
-
--- why the file of a name isn't at hand: one that is only read isn't found, another isn't locked
-abbrev pub IsNotAimed : StepKind → Scene → List ℕ → Fault → Type 0
-IsNotAimed Asks scene name fault = IsUnfound scene name fault
-IsNotAimed Recounts scene name fault = IsUnfound scene name fault
-IsNotAimed kind scene name fault = IsNotLocked kind scene name fault
-
--- why a step of a kind can't read its files: none is read of an image that is made
-abbrev pub IsUnreadFor : StepKind → Scene → Fault → Type 0
-IsUnreadFor Makes scene fault = ⊥
-IsUnreadFor kind scene fault = IsUnread scene fault
-
--- why nothing is handed of its files
-abbrev pub IsNotTakenUp : StepKind → Scene → List ℕ → Fault → Type 0
-IsNotTakenUp kind scene name fault = IsNotAimed kind scene name fault ⊎ IsUnreadFor kind scene fault
-
 -- what a fault of reading is told as
 abbrev pub fault_of_reading : ReadFault → Fault
 fault_of_reading reading.Memory = Refused Memory
@@ -166,3 +111,89 @@ fault_of_reading reading.CannotRead = CannotRead
 abbrev pub fault_at : StepKind → ReadFault → Fault
 fault_at Makes reading.CannotRead = CannotWrite
 fault_at kind fault = fault_of_reading fault
+
+-- ---- faults of the host
+
+-- the host has refused this call, which reads, or memory was refused
+abbrev pub IsUnreadBy : HostCall → Scene → Fault → Type 0
+IsUnreadBy call scene CannotRead = HasRefused scene call
+IsUnreadBy call scene (Refused refusal) = refusal ≡ Memory
+IsUnreadBy call scene _ = ⊥
+
+-- the call that reads a source of contents
+abbrev pub source_call : Source → HostCall
+source_call Input = ReadingInput
+source_call (File name) = ReadingContents name.now
+source_call (Said bytes) = ReadingInput
+
+-- the host has refused to read some contents, or memory was refused
+abbrev pub IsUnread : Scene → Fault → Type 0
+IsUnread scene fault = (source : Source) × IsUnreadBy (source_call source) scene fault
+
+-- the call that reads what a step on a history puts
+abbrev pub input_call : Move Source → HostCall
+input_call (Do (Put path source most) keep) = source_call source
+input_call _ = ReadingInput
+
+-- the file of this name isn't read, that of an image that another is compared with, or made of
+abbrev pub IsOtherUnread : Scene → List ℕ → Fault → Type 0
+IsOtherUnread scene name fault = (fault ≡ Refused Memory) ⊎ ((fault ≡ Other other.CannotRead) × HasRefused scene (Reading name))
+
+-- the host has refused to read the other image of a query
+abbrev pub HasRefusedOther : Query (Bor (List ℕ)) → Scene → Type 0
+HasRefusedOther (Diff name size quiet) scene = HasRefused scene (Reading name.now)
+HasRefusedOther _ scene = ⊥
+
+-- why that isn't read
+abbrev pub IsQueryUnread : Query (Bor (List ℕ)) → Scene → Fault → Type 0
+IsQueryUnread query scene fault = (fault ≡ Refused Memory) ⊎ ((fault ≡ Other other.CannotRead) × HasRefusedOther query scene)
+
+-- the host has refused to hand on what was printed, or to write the image of this name or its journal, or to give them their places
+abbrev pub HasRefusedStore : Scene → List ℕ → Type 0
+HasRefusedStore scene name =
+    HasRefused scene Flushing
+    ⊎ HasRefused scene (Writing (new_name name))
+    ⊎ HasRefused scene (Writing (new_name (journal_name name)))
+    ⊎ HasRefused scene (Settling (new_name (journal_name name)) (journal_name name))
+    ⊎ HasRefused scene (Renaming (new_name name) name)
+
+-- what a step leaves of the image of this name isn't written: the host has refused that, or memory was refused
+abbrev pub IsUnwrittenAt : Scene → List ℕ → Fault → Type 0
+IsUnwrittenAt scene name CannotWrite = HasRefusedStore scene name
+IsUnwrittenAt scene name (Refused refusal) = refusal ≡ Memory
+IsUnwrittenAt scene name _ = ⊥
+
+-- the lock of a file is withheld
+abbrev pub IsWithheld : Scene → Fault → Type 0
+IsWithheld scene fault = (fault ≡ CannotWrite) × HasWithheld scene
+
+-- why the lock of the file of this name isn't got: the host has refused it, or there is no such file; one that is made need not be there
+abbrev pub IsNoLock : StepKind → Scene → List ℕ → Fault → Type 0
+IsNoLock kind scene at fault =
+    ((fault ≡ fault_at kind reading.CannotRead) × HasRefused scene (Locking at))
+    ⊎ ((fault ≡ CannotRead) × ¬ (kind ≡ Makes) × IsMissing scene.files at)
+
+-- why it isn't locked: the lock is withheld, or isn't got
+abbrev pub IsNotLocked : StepKind → Scene → List ℕ → Fault → Type 0
+IsNotLocked kind scene at fault = IsWithheld scene fault ⊎ IsNoLock kind scene at fault
+
+-- it isn't found to which file a name leads: the host has refused that, or memory was refused
+abbrev pub IsNotFound : StepKind → Scene → List ℕ → Fault → Type 0
+IsNotFound kind scene name fault = ((fault ≡ fault_at kind reading.CannotRead) × HasRefused scene (Aiming name)) ⊎ (fault ≡ Refused Memory)
+
+-- why the file of a name isn't at hand: it isn't found, or one that isn't only read isn't locked
+abbrev pub IsNotAimed : StepKind → Scene → List ℕ → Fault → Type 0
+IsNotAimed Asks scene name fault = IsNotFound Asks scene name fault
+IsNotAimed Recounts scene name fault = IsNotFound Recounts scene name fault
+IsNotAimed kind scene name fault =
+    IsNotFound kind scene name fault ⊎ ((at : List ℕ) × IsTarget scene.files name at × IsNotLocked kind scene at fault)
+
+-- why a step of a kind can't read the image's file of this name, or its journal: none is read of an image that is made
+abbrev pub IsUnreadFor : StepKind → Scene → List ℕ → Fault → Type 0
+IsUnreadFor Makes scene at fault = ⊥
+IsUnreadFor kind scene at fault = IsUnreadBy (Reading at) scene fault ⊎ IsUnreadBy (Finding (journal_name at)) scene fault
+
+-- why nothing is handed of its files
+abbrev pub IsNotTakenUp : StepKind → Scene → List ℕ → Fault → Type 0
+IsNotTakenUp kind scene name fault =
+    IsNotAimed kind scene name fault ⊎ ((at : List ℕ) × IsTarget scene.files name at × IsUnreadFor kind scene at fault)

@@ -3,7 +3,8 @@ use Rattle.std.specs.Prelude.{ℕ, ◌≡◌, ◌⊎◌, ⊤, List, Option}
 use Rattle.std.specs.Io.KnownBytes.{Appends}
 use Rattle.lfs_exchange.specs.declared.step_kind.StepKind.{StepKind}
 use Rattle.lfs_exchange.specs.declared.step_kind.StepKind.TheVariants.{Asks, Recounts, Adopts}
-use Rattle.lfs_host.specs.Scene.{KeepsAll, KeepsText, Scene}
+use Rattle.lfs_host.specs.HostCall.{Flushing, Printing}
+use Rattle.lfs_host.specs.Scene.{HasRefused, KeepsAll, KeepsText, Scene}
 use Rattle.lfs_sink.specs.Send.{SendsBeginning}
 
 -- a beginning of the text has gone out, or all of it
@@ -13,6 +14,10 @@ PrintsBeginning old new text = SendsBeginning old new text ⊎ Appends old new t
 -- all that was printed is handed on
 abbrev pub IsFlushed : Scene → Type 0
 IsFlushed scene = scene.flushed ≡ scene.printed
+
+-- the host has refused to print, or to hand on what was printed
+abbrev pub HasRefusedOutput : Scene → Type 0
+HasRefusedOutput scene = HasRefused scene Printing ⊎ HasRefused scene Flushing
 
 -- so it is once a question is answered
 abbrev pub HandsOn : StepKind → Scene → Type 0

@@ -1,5 +1,5 @@
 -- What a step leaves in the files of an image and its journal (own).
-use Rattle.std.specs.Prelude.{◌≡◌, ◌⊎◌, ℕ, Bool, List, [], ◌∷◌, ◌++◌, Option, Some, None, string_bytes, codes}
+use Rattle.std.specs.Prelude.{◌≡◌, ◌⊎◌, ℕ, List, [], ◌∷◌, ◌++◌, Option, Some, None, string_bytes, codes}
 use Rattle.lfs_request.specs.declared.fault.Fault.{Fault}
 use Rattle.lfs_request.specs.declared.fault.Fault.TheVariants.{Refused}
 use Rattle.lfs_request.specs.declared.outcome.Outcome.{Outcome}
@@ -7,7 +7,8 @@ use Rattle.lfs_exchange.specs.declared.step_kind.StepKind.{StepKind}
 use Rattle.lfs_exchange.specs.declared.step_kind.StepKind.TheVariants.{Asks, Recounts, Forgets}
 use Rattle.lfs_exchange.specs.declared.names.Names.{Names}
 use Rattle.lfs_host.specs.Files.{Files, KeepsOthers, OnKnown, Replaces, StaysBut}
-use Rattle.lfs_host.specs.Scene.{WasRefused}
+use Rattle.lfs_host.specs.HostCall.{Renaming}
+use Rattle.lfs_host.specs.Scene.{HasRefused, Scene}
 
 -- the name of what is to become the file of a name
 abbrev pub new_name : List ℕ → List ℕ
@@ -86,14 +87,18 @@ SparesBoth old new name = OnKnown (StaysBut (new_names name)) old new
 abbrev pub SparesImage : Option Files → Option Files → List ℕ → Outcome → Type 0
 SparesImage old new name outcome = OnKnown (HasJournal name outcome.journal.items) old new
 
--- either of these: the image stays alone only where the host refused a file its place
-abbrev pub SparesEither : Option Bool → Option Files → Option Files → List ℕ → Outcome → Type 0
-SparesEither placed old new name outcome = SparesBoth old new name ⊎ (WasRefused placed × SparesImage old new name outcome)
+-- the host has refused a new image its place
+abbrev pub IsDisplaced : Scene → List ℕ → Type 0
+IsDisplaced scene name = HasRefused scene (Renaming (new_name name) name)
 
--- the files where the host refused something behind a run, a file its place or not: all of them stay where that was memory
-abbrev pub SparesFiles : Fault → StepKind → Option Bool → Option Files → Option Files → List ℕ → Outcome → Type 0
-SparesFiles (Refused refusal) kind placed old new name outcome = new ≡ old
-SparesFiles _ Asks placed old new name outcome = new ≡ old
-SparesFiles _ Recounts placed old new name outcome = new ≡ old
-SparesFiles _ Forgets placed old new name outcome = SparesJournal old new name
-SparesFiles _ _ placed old new name outcome = SparesEither placed old new name outcome
+-- either of these: the image stays alone only if the host refused the new one its place
+abbrev pub SparesEither : Scene → Option Files → Option Files → List ℕ → Outcome → Type 0
+SparesEither scene old new name outcome = SparesBoth old new name ⊎ (IsDisplaced scene name × SparesImage old new name outcome)
+
+-- the files if the host refused something after a run, which leaves this scene: all of them stay if that was memory
+abbrev pub SparesFiles : Fault → StepKind → Scene → Option Files → Option Files → List ℕ → Outcome → Type 0
+SparesFiles (Refused refusal) kind scene old new name outcome = new ≡ old
+SparesFiles _ Asks scene old new name outcome = new ≡ old
+SparesFiles _ Recounts scene old new name outcome = new ≡ old
+SparesFiles _ Forgets scene old new name outcome = SparesJournal old new name
+SparesFiles _ _ scene old new name outcome = SparesEither scene old new name outcome

@@ -6,9 +6,10 @@ ghost use Rattle.lfs_request.specs.declared.fault.Fault.TheVariants.{CannotRead,
 ghost use Rattle.lfs_request.specs.declared.other_fault.OtherFault.TheVariants as other;
 ghost use Rattle.lfs_fs.specs.Limits.{most_file};
 ghost use Rattle.lfs_host.specs.Files.{FindsFile, IsMissing, IsTarget, ReadsFile, ReadsFrom, ReadsInput};
-ghost use Rattle.lfs_host.specs.Scene.{HasClaimed, HasRefused, KeepsAll, KeepsOutput, KeepsSeen};
+ghost use Rattle.lfs_host.specs.HostCall.{Finding, ReadingContents, ReadingInput, Sparing};
+ghost use Rattle.lfs_host.specs.Scene.{HasClaimed, HasRefused, IsCovered, KeepsAll, KeepsOutput, KeepsSeen, KeepsTally};
 ghost use Rattle.lfs_exchange.specs.Handing.{HandsImage, HandsInput, HandsJournal, HandsQuestion, HandsSource, IsClaimed, IsHanded, IsNotAimed, IsNotLocked};
-ghost use Rattle.lfs_exchange.specs.Handing.{IsNotTakenUp, IsOtherUnread, IsUnread, IsUnreadFor, LeavesInput, LeavesSource, fault_at, fault_of_reading, most_image};
+ghost use Rattle.lfs_exchange.specs.Handing.{IsChanging, IsNotTakenUp, IsOtherUnread, IsQueryUnread, IsUnreadBy, IsUnreadFor, input_call, source_call, LeavesInput, LeavesSource, fault_at, fault_of_reading, most_image};
 ghost use Rattle.lfs_exchange.specs.declared.step_kind.StepKind.TheVariants.{Makes};
 ghost use Rattle.lfs_exchange.specs.Storing.{journal_name};
 
@@ -50,6 +51,7 @@ pub fn taken_up<H: Host>(
     ensures claimed { IfOk result (λ h. IsClaimed h.kind (H.known host.new) (string_bytes h.target)) }
     ensures handed { IfOk result (λ h. IsHanded h.kind place name.now (H.known host.new) (record { image = h.image.items; journal = h.journal.items })) }
     ensures refused { IfErr result (IsNotTakenUp kind (H.known host.new) name.now) }
+    ensures tally { IsChanging kind → KeepsTally (H.known host.old) (H.known host.new) }
     ensures kept { KeepsSeen (H.known host.old) (H.known host.new) }
 {
     let target = aimed(alloc, host, kind, name)?;
@@ -68,6 +70,7 @@ fn aimed<H: Host>(alloc: Global, host: &mut H, kind: StepKind, name: &str) -> Re
     ensures target { IfOk result (λ target. IsTarget (H.known host.old).files name.now (string_bytes target)) }
     ensures claimed { IfOk result (λ target. IsClaimed kind (H.known host.new) (string_bytes target)) }
     ensures refused { IfErr result (IsNotAimed kind (H.known host.new) name.now) }
+    ensures tally { KeepsTally (H.known host.old) (H.known host.new) }
     ensures kept { KeepsSeen (H.known host.old) (H.known host.new) }
 {
     let target = match host.target(alloc, name) {
@@ -87,6 +90,7 @@ fn aimed<H: Host>(alloc: Global, host: &mut H, kind: StepKind, name: &str) -> Re
 fn lock<H: Host>(host: &mut H, kind: StepKind, name: &str) -> Result<(), Fault>
     ensures claimed { OnOk result (HasClaimed (H.known host.new) name.now) }
     ensures refused { IfErr result (IsNotLocked kind (H.known host.new) name.now) }
+    ensures tally { KeepsTally (H.known host.old) (H.known host.new) }
     ensures kept { KeepsSeen (H.known host.old) (H.known host.new) }
 {
     match host.lock(name) {
@@ -115,7 +119,7 @@ fn must_be_there(kind: StepKind) -> Result<(), Fault>
 pub fn spare<H: Host>(host: &mut H, is_new: bool, name: &str) -> Result<(), Fault>
     ensures missing { OnOk result (is_new ≡ true → IsMissing (H.known host.old).files name.now) }
     ensures same { OnOk result (H.known host.new ≡ H.known host.old) }
-    ensures refused { IfErr result (λ fault. (is_new ≡ true) × (fault ≡ CannotWrite) × HasRefused (H.known host.new)) }
+    ensures refused { IfErr result (λ fault. (is_new ≡ true) × (fault ≡ CannotWrite) × HasRefused (H.known host.new) (Sparing name.now)) }
     ensures kept { KeepsAll (H.known host.old) (H.known host.new) }
 {
     if is_new && host.must_be_new(name).is_err() {
@@ -133,7 +137,8 @@ fn read_image<H: Host>(
     name: &str,
 ) -> Result<Vec<u8>, Fault>
     ensures image { IfOk result (λ bytes. HandsImage kind place (H.known host.old).files name.now bytes.items) }
-    ensures refused { IfErr result (IsUnreadFor kind (H.known host.new)) }
+    ensures tally { HasClaimed (H.known host.old) name.now → KeepsTally (H.known host.old) (H.known host.new) }
+    ensures refused { IfErr result (IsUnreadFor kind (H.known host.new) name.now) }
     ensures kept { KeepsAll (H.known host.old) (H.known host.new) }
 {
     if let StepKind::Makes = kind {
@@ -153,7 +158,8 @@ fn journal_of<H: Host>(
     name: &str,
 ) -> Result<Vec<u8>, Fault>
     ensures journal { IfOk result (λ bytes. HandsJournal kind (H.known host.old).files name.now bytes.items) }
-    ensures refused { IfErr result (IsUnreadFor kind (H.known host.new)) }
+    ensures tally { HasClaimed (H.known host.old) name.now → KeepsTally (H.known host.old) (H.known host.new) }
+    ensures refused { IfErr result (IsUnreadFor kind (H.known host.new) name.now) }
     ensures kept { KeepsAll (H.known host.old) (H.known host.new) }
 {
     match kind {
@@ -167,7 +173,8 @@ fn journal_of<H: Host>(
 /// The bytes of the journal of an image's file; none where there is no such journal.
 fn find_journal<H: Host>(alloc: Global, host: &mut H, name: &str) -> Result<Vec<u8>, Fault>
     ensures journal { IfOk result (λ bytes. FindsFile (H.known host.old).files (journal_name name.now) most_journal bytes.items) }
-    ensures refused { IfErr result (IsUnread (H.known host.new)) }
+    ensures tally { HasClaimed (H.known host.old) name.now → KeepsTally (H.known host.old) (H.known host.new) }
+    ensures refused { IfErr result (IsUnreadBy (Finding (journal_name name.now)) (H.known host.new)) }
     ensures kept { KeepsAll (H.known host.old) (H.known host.new) }
 {
     let journal = journal_name(alloc, name)?;
@@ -184,7 +191,7 @@ pub fn input_of<H: Host>(
     step: &Move<'_, Source<'_>>,
 ) -> Result<Vec<u8>, Fault>
     ensures input { IfOk result (λ input. HandsInput step.now (H.known host.old).files (H.known host.old).typed input.items) }
-    ensures refused { IfErr result (IsUnread (H.known host.new)) }
+    ensures refused { IfErr result (IsUnreadBy (input_call step.now) (H.known host.new)) }
     ensures unread { LeavesInput step.now (H.known host.old) (H.known host.new) }
     ensures kept { KeepsOutput (H.known host.old) (H.known host.new) }
 {
@@ -205,7 +212,7 @@ pub fn source_read<H: Host>(
     source: &Source<'_>,
 ) -> Result<Vec<u8>, Fault>
     ensures input { IfOk result (λ input. HandsSource source.now (H.known host.old).files (H.known host.old).typed input.items) }
-    ensures refused { IfErr result (IsUnread (H.known host.new)) }
+    ensures refused { IfErr result (IsUnreadBy (source_call source.now) (H.known host.new)) }
     ensures unread { LeavesSource source.now (H.known host.old) (H.known host.new) }
     ensures kept { KeepsOutput (H.known host.old) (H.known host.new) }
 {
@@ -223,7 +230,7 @@ pub fn question_of<'a, H: Host>(
     query: &Query<'a, &'a str>,
 ) -> Result<Query<'a, Vec<u8>>, Fault>
     ensures question { IfOk result (HandsQuestion (H.known host.old).files query.now) }
-    ensures refused { IfErr result (IsOtherUnread (H.known host.new)) }
+    ensures refused { IfErr result (IsQueryUnread query.now (H.known host.new)) }
     ensures kept { KeepsAll (H.known host.old) (H.known host.new) }
 {
     match *query {
@@ -243,7 +250,7 @@ pub fn question_of<'a, H: Host>(
 /// The contents of a file of the host, as those of one that is put. Takes memory.
 pub fn read_contents<H: Host>(alloc: Global, host: &mut H, name: &str) -> Result<Vec<u8>, Fault>
     ensures input { IfOk result (λ input. ReadsFile (H.known host.old).files name.now most_file input.items) }
-    ensures refused { IfErr result (IsUnread (H.known host.new)) }
+    ensures refused { IfErr result (IsUnreadBy (ReadingContents name.now) (H.known host.new)) }
     ensures kept { KeepsAll (H.known host.old) (H.known host.new) }
 {
     match host.read_contents(alloc, name, u64::from(MOST_FILE)) {
@@ -255,7 +262,7 @@ pub fn read_contents<H: Host>(alloc: Global, host: &mut H, name: &str) -> Result
 /// What is left on standard input, as the contents of a file that is put. Takes memory.
 pub fn read_input<H: Host>(alloc: Global, host: &mut H) -> Result<Vec<u8>, Fault>
     ensures input { IfOk result (λ input. ReadsInput (H.known host.old).typed most_file input.items) }
-    ensures refused { IfErr result (IsUnread (H.known host.new)) }
+    ensures refused { IfErr result (IsUnreadBy ReadingInput (H.known host.new)) }
     ensures kept { KeepsOutput (H.known host.old) (H.known host.new) }
 {
     match host.input(alloc, u64::from(MOST_FILE)) {
@@ -273,7 +280,8 @@ pub fn read_other<H: Host>(
     name: &str,
 ) -> Result<Vec<u8>, Fault>
     ensures bytes { IfOk result (λ bytes. ReadsFrom (H.known host.old).files name.now place most_image bytes.items) }
-    ensures refused { IfErr result (IsOtherUnread (H.known host.new)) }
+    ensures refused { IfErr result (IsOtherUnread (H.known host.new) name.now) }
+    ensures tally { IsCovered (H.known host.old) name.now → KeepsTally (H.known host.old) (H.known host.new) }
     ensures kept { KeepsAll (H.known host.old) (H.known host.new) }
 {
     match host.read(alloc, name, place, MAX_IMAGE_LENGTH) {

@@ -6,7 +6,7 @@ use lfs_host::{Host, HostFault};
 use lfs_sink::Sink;
 
 /// A host's standard output as a sink: what went out is what the host printed. No write changes which host it is, its files, what is
-/// left on its standard input, what was made, which names are claimed, and that it has failed only where the host has refused something.
+/// left on its standard input, what was made, which names are claimed, and that it has failed only if the host has refused to print.
 #[derive(Drop)]
 pub struct Output<'a, H> {
     host: &'a mut H,
@@ -39,6 +39,7 @@ impl<H: Host> Sink for Output<'_, H> {
     ghost use base.Fml.{GName};
     ghost use Rattle.lfs_host.specs.Files.{Files};
     ghost use Rattle.lfs_host.specs.NewFolder.{Made};
+    ghost use Rattle.lfs_host.specs.HostCall.{Printing};
     ghost use Rattle.lfs_host.specs.Scene.{is_blamed};
 
     ghost sent = { λ output. (H.known output.host.now).printed };
@@ -53,7 +54,7 @@ impl<H: Host> Sink for Output<'_, H> {
       (H.known output.host.now).typed,
       (H.known output.host.now).made,
       (H.known output.host.now).claimed,
-      is_blamed output.has_failed (H.known output.host.now).has_refused,
+      is_blamed output.has_failed (H.known output.host.now).refused Printing,
     ) };
 
     fn write(&mut self, bytes: &[u8]) -> Option<usize> {

@@ -3,10 +3,10 @@
 ghost use Rattle.std.specs.Prelude.{◌≡◌, ◌⊎◌, IfErr, MatchResult, OnOk};
 ghost use Rattle.lfs_request.specs.declared.fault.Fault.TheVariants.{CannotWrite};
 ghost use Rattle.lfs_host.specs.Files.{OnKnown};
-ghost use Rattle.lfs_host.specs.Scene.{HasClaimed, HasRefused, KeepsText, WasRefused};
-ghost use Rattle.lfs_exchange.specs.Handing.{IsClaimed, IsUnwritten};
+ghost use Rattle.lfs_host.specs.Scene.{HasClaimed, KeepsText};
+ghost use Rattle.lfs_exchange.specs.Handing.{HasRefusedStore, IsClaimed, IsUnwrittenAt};
 ghost use Rattle.lfs_exchange.specs.Printing.{HandsOn, HandsOnFirst};
-ghost use Rattle.lfs_exchange.specs.Storing.{HasNew, HasPlaced, HasPlacedJournal, IsNames, LeavesBoth, LeavesFiles, LeavesJournal, SparesBoth, SparesEither, SparesFiles, SparesJournal};
+ghost use Rattle.lfs_exchange.specs.Storing.{HasNew, HasPlaced, HasPlacedJournal, IsDisplaced, IsNames, LeavesBoth, LeavesFiles, LeavesJournal, SparesBoth, SparesEither, SparesFiles, SparesJournal};
 
 use crate::names::{Names, names_of};
 use crate::printing::flush;
@@ -26,10 +26,10 @@ pub fn stored<H: Host>(
     requires claimed { IsClaimed kind (H.known host.old) name.now }
     ensures files { MatchResult result
         (λ _. LeavesFiles kind (H.known host.old).files (H.known host.new).files name.now outcome.now)
-        (λ fault. SparesFiles fault kind (H.known host.new).has_refused_place (H.known host.old).files (H.known host.new).files name.now outcome.now) }
+        (λ fault. SparesFiles fault kind (H.known host.new) (H.known host.old).files (H.known host.new).files name.now outcome.now) }
     ensures flushed { OnOk result (HandsOn kind (H.known host.new)) }
     ensures first { OnOk result (HandsOnFirst H.known kind host.old host.new) }
-    ensures refused { IfErr result (IsUnwritten (H.known host.new)) }
+    ensures refused { IfErr result (IsUnwrittenAt (H.known host.new) name.now) }
     ensures kept { KeepsText (H.known host.old) (H.known host.new) }
 {
     match kind {
@@ -61,7 +61,7 @@ fn put_journal<H: Host>(
     ensures files { MatchResult result
         (λ _. LeavesJournal (H.known host.old).files (H.known host.new).files name.now journal.now.items)
         (λ _. SparesJournal (H.known host.old).files (H.known host.new).files name.now) }
-    ensures refused { IfErr result (λ fault. (fault ≡ CannotWrite) × HasRefused (H.known host.new)) }
+    ensures refused { IfErr result (λ fault. (fault ≡ CannotWrite) × HasRefusedStore (H.known host.new) name.now) }
     ensures kept { KeepsText (H.known host.old) (H.known host.new) }
 {
     let new = names.new_journal.as_str();
@@ -87,8 +87,8 @@ fn put_both<H: Host>(
     requires claimed { HasClaimed (H.known host.old) name.now }
     ensures files { MatchResult result
         (λ _. LeavesBoth (H.known host.old).files (H.known host.new).files name.now outcome.now)
-        (λ _. SparesEither (H.known host.new).has_refused_place (H.known host.old).files (H.known host.new).files name.now outcome.now) }
-    ensures refused { IfErr result (λ fault. (fault ≡ CannotWrite) × HasRefused (H.known host.new)) }
+        (λ _. SparesEither (H.known host.new) (H.known host.old).files (H.known host.new).files name.now outcome.now) }
+    ensures refused { IfErr result (λ fault. (fault ≡ CannotWrite) × HasRefusedStore (H.known host.new) name.now) }
     ensures kept { KeepsText (H.known host.old) (H.known host.new) }
 {
     prepared(host, name, names, outcome)?;
@@ -107,7 +107,7 @@ fn prepared<H: Host>(
     ensures files { MatchResult result
         (λ _. OnKnown (HasNew name.now outcome.now.image.items outcome.now.journal.items) (H.known host.old).files (H.known host.new).files)
         (λ _. SparesBoth (H.known host.old).files (H.known host.new).files name.now) }
-    ensures refused { IfErr result (λ fault. (fault ≡ CannotWrite) × HasRefused (H.known host.new)) }
+    ensures refused { IfErr result (λ fault. (fault ≡ CannotWrite) × HasRefusedStore (H.known host.new) name.now) }
     ensures kept { KeepsText (H.known host.old) (H.known host.new) }
 {
     let new_image = names.new_image.as_str();
@@ -129,8 +129,8 @@ fn placed<H: Host>(host: &mut H, name: &str, names: &Names) -> Result<(), Fault>
     ensures files { MatchResult result
         (λ _. OnKnown (HasPlaced name.now) (H.known host.old).files (H.known host.new).files)
         (λ _. SparesBoth (H.known host.old).files (H.known host.new).files name.now
-        ⊎ (WasRefused (H.known host.new).has_refused_place × OnKnown (HasPlacedJournal name.now) (H.known host.old).files (H.known host.new).files)) }
-    ensures refused { IfErr result (λ fault. (fault ≡ CannotWrite) × HasRefused (H.known host.new)) }
+        ⊎ (IsDisplaced (H.known host.new) name.now × OnKnown (HasPlacedJournal name.now) (H.known host.old).files (H.known host.new).files)) }
+    ensures refused { IfErr result (λ fault. (fault ≡ CannotWrite) × HasRefusedStore (H.known host.new) name.now) }
     ensures kept { KeepsText (H.known host.old) (H.known host.new) }
 {
     let new_image = names.new_image.as_str();

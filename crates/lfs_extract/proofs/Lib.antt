@@ -1,5 +1,6 @@
 pub mod PrefixLemmas
 pub mod HostNameLemmas
+pub mod FillLemmas
 pub mod MakingLemmas
 pub mod NameLemmas
 pub mod PathBelowLemmas

@@ -1,10 +1,10 @@
 -- What is made row by row.
 use Rattle.std.proofs.Common.{◌≡◌, ◌≢◌, ◌<◌, ℕ, false, List, [], ◌∷◌, ◌++◌, Option, None, Some, Result, Ok, Err, MatchResult, refl, ap, sym, subst, ◌∙◌}
-use Rattle.std.proofs.Common.{append_assoc, append-nil, arith, Bor, map}
-use Rattle.std.specs.Prelude.{All, Contains, IfSome, is_some}
+use Rattle.std.proofs.Common.{append_assoc, append-nil, arith, inl, Bor, map}
+use Rattle.std.specs.Prelude.{All, Contains, IfErr, IfSome, is_some}
 use Rattle.std.specs.Str.{IsUtf8}
-use Rattle.std.specs.Result.{result_err}
-use Rattle.std.proofs.lemmas.List.Elements.{All-contains, All-contains_itself, All-head, All-tail, All-weaker}
+use Rattle.std.specs.Result.{IsErrAnd, result_err}
+use Rattle.std.proofs.lemmas.List.Elements.{All-contains, All-contains_itself, All-head, All-tail, All-weaker, Contains-append_right}
 use Rattle.lfs_block.specs.Disk.{Disk, IsDisk}
 use Rattle.lfs_meta.specs.Name.{Name}
 use Rattle.lfs_fs.specs.Path.{Path}
@@ -16,7 +16,8 @@ use Rattle.lfs_command.specs.PathMap.{below}
 use Rattle.lfs_extract.specs.PathBelow.{host_name}
 use Rattle.lfs_extract.specs.RowsBelow.{row_below, rows_below}
 use Rattle.lfs_host.specs.NewFolder.{Made, Makes}
-use Rattle.lfs_extract.specs.Extracted.{HaveTexts, IsHostText, JudgesNames, MakesFront, StayBelow, all_made, made_of}
+use Rattle.lfs_host.specs.Scene.{HasRefusedMade, Scene}
+use Rattle.lfs_extract.specs.Extracted.{HasRefusedOne, HaveTexts, IsBegun, IsHostText, JudgesNames, MakesFront, StayBelow, all_made, made_of}
 use Rattle.lfs_extract.proofs.PrefixLemmas.{has_last}
 use Rattle.lfs_extract.specs.declared.extract_fault.ExtractFault.{ExtractFault}
 use Rattle.lfs_extract.specs.declared.extract_fault.ExtractFault.TheVariants.{Memory, HostName, CannotWrite}
@@ -30,6 +31,9 @@ makes_then None b c first second p q = tt
 makes_then (Some xs) None c first second p q = absurd p
 makes_then (Some xs) (Some ys) None first second p q = absurd q
 makes_then (Some xs) (Some ys) (Some zs) first second p q = q ∙ ap (λ l. l ++ second) p ∙ append_assoc xs first second
+
+has_middle : (xs : List Made) (m : Made) (ys : List Made) → Contains (xs ++ m ∷ ys) m
+has_middle xs m ys = Contains-append_right xs (m ∷ ys) m (0, omega arith, refl)
 
 -- those in front of the rest were made
 pub record IsOnWay (old new : Option (List Made)) (rest complete : List Made) : Type 0 where
@@ -108,17 +112,30 @@ module _ (old mid : Option (List Made)) (d : Disk) (at : Path) (dir : List ℕ) 
           texts = All-tail (λ (r : Row). All IsHostText r.path) row (rows_below at next) (texts_by (Some rest) inside);
         }
 
-    -- or no more are
-    pub stopped : MakesFront old mid (all_made d dir (rows_below at complete))
-    stopped =
+    -- or no more are, but for a beginning of the next one
+    pub stopped_at : (new : Option (List Made)) (begun : List Made) → IsBegun (made_of d dir (record { path = rest; entry = x.entry })) begun
+        → Makes mid new begun → MakesFront old new (all_made d dir (rows_below at complete))
+    stopped_at new begun is made =
         let way = way_by (Some rest) inside in
         record {
           prefix = way.prefix;
           next = made_of d dir row;
           rest = all_made d dir (rows_below at next);
+          begun = begun;
           split = way.all;
-          made = way.made;
+          is_begun = is;
+          made = makes_then old mid new way.prefix begun way.made made;
         }
+
+    pub stopped : MakesFront old mid (all_made d dir (rows_below at complete))
+    stopped = stopped_at mid [] (inl refl) (makes_nothing mid)
+
+    -- that one is among them
+    pub next_there : Contains (all_made d dir (rows_below at complete)) (made_of d dir (record { path = rest; entry = x.entry }))
+    next_there =
+        let way = way_by (Some rest) inside in
+        subst (λ (ms : List Made). Contains ms (made_of d dir row)) way.all
+        (has_middle way.prefix (made_of d dir row) (all_made d dir (rows_below at next)))
 
 -- ---- what is left of the path of a row
 
@@ -163,6 +180,27 @@ rows_have_blocks shows d disk m is =
 -- what making rows answers, where all names are texts
 abbrev pub IsMade : Result (Unit {0}) ExtractFault → Option (List Made) → Option (List Made) → List Made → Type 0
 IsMade result old new complete = MatchResult result (λ _. Makes old new complete) (λ fault. (fault ≢ HostName) × MakesFront old new complete)
+
+pub memory_stops : (result : Result (Unit {0}) ExtractFault) (old new : Option (List Made)) (complete : List Made)
+    → IsErrAnd result (λ fault. fault ≡ Memory) → MakesFront old new complete → IsMade result old new complete
+memory_stops (Ok done) old new complete is front = absurd is
+memory_stops (Err fault) old new complete is front = ((λ name. other (sym is ∙ name)), front)
+  where
+    other : Memory ≡ HostName → ⊥
+    other same = absurd cc
+
+pub host_stops : (result : Result (Unit {0}) ExtractFault) (old new : Option (List Made)) (complete : List Made)
+    → IsErrAnd result (λ fault. fault ≡ CannotWrite) → MakesFront old new complete → IsMade result old new complete
+host_stops (Ok done) old new complete is front = absurd is
+host_stops (Err fault) old new complete is front = ((λ name. other (sym is ∙ name)), front)
+  where
+    other : CannotWrite ≡ HostName → ⊥
+    other same = absurd cc
+
+pub host_blamed : (result : Result (Unit {0}) ExtractFault) (new : Scene) (complete : List Made) (m : Made)
+    → Contains complete m → HasRefusedMade new m → IfErr result (λ fault. fault ≡ CannotWrite → HasRefusedOne new complete)
+host_blamed (Ok done) new complete m there refused = tt
+host_blamed (Err fault) new complete m there refused = λ _. (m, there, refused)
 
 judges_by : (fault : ExtractFault) (rows : List Row) → fault ≢ HostName → StayBelow rows → JudgesNames (Some fault) rows
 judges_by Memory rows other stay = stay

@@ -65,7 +65,7 @@ none_twice listed once (sorted, k, moved, within, same) =
 
 -- a known host's folder isn't blamed for its names
 pub order_blamed : (known : Option HostTree) (folder : List ℕ) (listed : List Name) (new : Scene) (fault : FolderFault) → Lists known folder listed
-    → CannotOrder listed fault → IsHostBlamed known new fault
+    → CannotOrder listed fault → IsHostBlamed known folder new fault
 order_blamed None folder listed new CannotRead h why = tt
 order_blamed (Some tree) folder listed new CannotRead (names, is, same) why = absurd (none_twice listed same.once why)
 order_blamed known folder listed new HostName h why = tt

@@ -1,6 +1,7 @@
 -- Steps of a walk over what is below a host's folder, its start and its end.
 use Rattle.std.proofs.Common.{◌≡◌, ◌≢◌, ◌+◌, ◌<◌, ◌≤◌, ℕ, true, List, [], ◌∷◌, ◌++◌, Option, Some, None, refl, ap, sym, ◌∙◌, subst, arith, inl, inr, map, append_assoc, length, length-append, get_or, suc}
-use Rattle.std.specs.Prelude.{IfSome}
+use Rattle.std.specs.Prelude.{IfErr, IfSome, Result, Ok, Err}
+use Rattle.std.specs.Result.{IsErrAnd}
 use Rattle.std.specs.List.{All, Contains}
 use Rattle.std.proofs.lemmas.List.{map-append, append-nil, length-map}
 use Rattle.std.proofs.lemmas.List.Elements.{All-nil, All-cons, All-head, All-tail, All-append, All-map, All-push, All-weaker}
@@ -17,7 +18,10 @@ use Rattle.lfs_extract.specs.declared.folder_fault.FolderFault.{FolderFault}
 use Rattle.lfs_extract.specs.declared.folder_fault.FolderFault.TheVariants.{Memory, HostEntry, HostName, CannotRead}
 use Rattle.lfs_host.specs.declared.host_kind.HostKind.TheVariants.{Missing, Other}
 use Rattle.lfs_host.specs.HostTree.{HostNode, NothingThere, FileOf, FolderOf, OtherThere, HostTree, host_kind_of, IsKind, Lists, ReadsEntry}
-use Rattle.lfs_host.specs.Scene.{Scene}
+use Rattle.lfs_host.specs.Scene.{HasRefusedEntry, Scene, refuses_reading}
+use Rattle.lfs_host.specs.declared.read_fault.ReadFault.{ReadFault}
+use Rattle.lfs_host.specs.declared.read_fault.ReadFault.TheVariants as reading
+use Rattle.lfs_extract.specs.FolderFault.{folder_fault_of}
 use Rattle.lfs_extract.specs.HostNames.{IsHostName}
 use Rattle.lfs_extract.specs.PathBelow.{name_in, host_name, text_below}
 use Rattle.lfs_extract.specs.FolderRows.{PathRow, folder_row, paths_of, IsRow, AreSpelled, IsInside, IsBelow, IsRight, AreAllBelow, IsFolder, RefusesHostTree, RefusesFolderRows, BlamesHost, IsUnreadable, most_rows}
@@ -389,11 +393,55 @@ walk_too_long most known dir name rows waiting new walk long =
     both_known known T T (λ (tree : HostTree). IsUnreadable tree dir new)
     (λ tree h k. inr (inr (met, here.rise, met_below most tree dir shown (p ∷ next.rest) h, more))) here.all here.all
 
+-- the host has refused to read what waits
+pub walk_unread : (most : ℕ) (known : Option HostTree) (dir name : List ℕ) (rows : List FolderRow) (waiting : List (List ℕ)) (new : Scene)
+    → IsFolderWalk most known dir rows (name ∷ waiting) → IfSome known (λ _. HasRefusedEntry new name) → BlamesHost known dir new CannotRead
+walk_unread most known dir name rows waiting new walk why =
+    let next = next_path dir name waiting walk.queue walk.names in
+    let p : Path = next.path in
+    let here = at_next most known dir walk.shown walk.queue p next.rest next.queue_is walk.walk in
+    both_known known (λ (tree : HostTree). IsBelow tree dir p) (λ (tree : HostTree). HasRefusedEntry new name)
+    (λ (tree : HostTree). IsUnreadable tree dir new)
+    (λ tree below h. inl (p, below, subst (HasRefusedEntry new) next.name_is h))
+    (known_below most known dir walk.shown p next.rest here) why
+
+-- as it is told
+pub unread_by : {T : Type 0} (most : ℕ) (known : Option HostTree) (dir name : List ℕ) (rows : List FolderRow) (waiting : List (List ℕ)) (new : Scene)
+    (result : Result T FolderFault) → IsFolderWalk most known dir rows (name ∷ waiting) → HasRefusedEntry new name
+    → IfErr result (λ fault. BlamesHost known dir new fault)
+unread_by most known dir name rows waiting new (Ok done) walk why = tt
+unread_by most None dir name rows waiting new (Err CannotRead) walk why = tt
+unread_by most (Some tree) dir name rows waiting new (Err CannotRead) walk why =
+    walk_unread most (Some tree) dir name rows waiting new walk why
+unread_by most known dir name rows waiting new (Err Memory) walk why = tt
+unread_by most known dir name rows waiting new (Err HostName) walk why = tt
+unread_by most known dir name rows waiting new (Err HostEntry) walk why = tt
+
+-- memory was refused, or the host refuses
+pub reading_unread : {T : Type 0} (most : ℕ) (known : Option HostTree) (dir name : List ℕ) (rows : List FolderRow) (waiting : List (List ℕ)) (new : Scene)
+    (fault : ReadFault) (result : Result T FolderFault) → IsFolderWalk most known dir rows (name ∷ waiting)
+    → (refuses_reading fault ≡ true → HasRefusedEntry new name) → IsErrAnd result (λ told. told ≡ folder_fault_of fault)
+    → IfErr result (λ told. BlamesHost known dir new told)
+reading_unread most known dir name rows waiting new reading.Memory (Ok done) walk why is = tt
+reading_unread most known dir name rows waiting new reading.Memory (Err told) walk why is = rw is tt
+reading_unread most known dir name rows waiting new reading.CannotRead result walk why is =
+    unread_by most known dir name rows waiting new result walk (why refl)
+
 -- a folder that isn't entered
-pub walk_blamed : (known seen : Option HostTree) (dir : List ℕ) (new : Scene) (fault : FolderFault) → seen ≡ known
-    → IsHostBlamed seen new fault → BlamesHost known dir new fault
-walk_blamed None seen dir new CannotRead same why = tt
-walk_blamed (Some tree) seen dir new CannotRead same why = inl (subst (λ (k : Option HostTree). IsHostBlamed k new CannotRead) same why)
-walk_blamed known seen dir new Memory same why = tt
-walk_blamed known seen dir new HostName same why = tt
-walk_blamed known seen dir new HostEntry same why = tt
+pub walk_blamed : (most : ℕ) (known seen : Option HostTree) (dir name : List ℕ) (rows : List FolderRow) (waiting : List (List ℕ)) (new : Scene)
+    (fault : FolderFault) → IsFolderWalk most known dir rows (name ∷ waiting) → seen ≡ known → IsHostBlamed seen name new fault
+    → BlamesHost known dir new fault
+walk_blamed most known seen dir name rows waiting new CannotRead walk same why =
+    walk_unread most known dir name rows waiting new walk (subst (λ (k : Option HostTree). IsHostBlamed k name new CannotRead) same why)
+walk_blamed most known seen dir name rows waiting new Memory walk same why = tt
+walk_blamed most known seen dir name rows waiting new HostName walk same why = tt
+walk_blamed most known seen dir name rows waiting new HostEntry walk same why = tt
+
+-- nor is the folder that the walk begins with
+pub start_blamed : (known : Option HostTree) (dir : List ℕ) (new : Scene) (fault : FolderFault) → IsHostBlamed known dir new fault
+    → BlamesHost known dir new fault
+start_blamed None dir new CannotRead why = tt
+start_blamed (Some tree) dir new CannotRead why = inl ([], tt, subst (HasRefusedEntry new) (sym (name_of_root dir)) why)
+start_blamed known dir new Memory why = tt
+start_blamed known dir new HostName why = tt
+start_blamed known dir new HostEntry why = tt

@@ -1,5 +1,5 @@
 -- What is made of the rows of an image in a folder of a host (own).
-use Rattle.std.specs.Prelude.{◌≡◌, ◌≢◌, ℕ, List, ◌∷◌, ◌++◌, Option, Some, None, map, All, Contains}
+use Rattle.std.specs.Prelude.{◌≡◌, ◌≢◌, ◌⊎◌, ℕ, List, [], ◌∷◌, ◌++◌, Option, Some, None, Result, map, take, All, Contains, MatchResult}
 use Rattle.std.specs.Str.{IsUtf8}
 use Rattle.lfs_block.specs.Disk.{Disk}
 use Rattle.lfs_meta.specs.Name.{Name}
@@ -9,6 +9,7 @@ use Rattle.lfs_fs.specs.RowShown.{shown_node}
 use Rattle.lfs_extract.specs.HostNames.{IsHostName}
 use Rattle.lfs_extract.specs.PathBelow.{host_name}
 use Rattle.lfs_host.specs.NewFolder.{Made, FolderMade, FileMade, Makes}
+use Rattle.lfs_host.specs.Scene.{HasRefusedMade, Scene}
 use Rattle.lfs_extract.specs.declared.extract_fault.ExtractFault.{ExtractFault}
 use Rattle.lfs_extract.specs.declared.extract_fault.ExtractFault.TheVariants.{Memory, HostName, CannotWrite}
 
@@ -27,15 +28,34 @@ made_of d dir r = made_node (host_name dir r.path) (shown_node d r.entry)
 abbrev pub all_made : Disk → List ℕ → List Row → List Made
 all_made d dir rows = map (made_of d dir) rows
 
--- those in front of one of them were made, and no other
+-- a file with the first so many of its bytes; nothing of a folder
+abbrev pub beginning : ℕ → Made → List Made
+beginning n (FolderMade name) = []
+beginning n (FileMade name bytes) = FileMade name (take n bytes) ∷ []
+
+-- nothing is made of it, or a beginning
+abbrev pub IsBegun : Made → List Made → Type 0
+IsBegun m begun = (begun ≡ []) ⊎ ((n : ℕ) × (begun ≡ beginning n m))
+
+-- it is made, or no more than a beginning of it
+abbrev pub MakesOne : {T E : Type 0} → Result T E → Option (List Made) → Option (List Made) → Made → Type 0
+MakesOne result old new m = MatchResult result (λ _. Makes old new (m ∷ [])) (λ _. (begun : List Made) × IsBegun m begun × Makes old new begun)
+
+-- those before one of them were made, and of that one no more than a beginning
 pub record MakesFront (old new : Option (List Made)) (complete : List Made) : Type 0 where
   pub prefix : List Made
   pub next : Made
   pub rest : List Made
+  pub begun : List Made
   pub split : prefix ++ next ∷ rest ≡ complete
-  pub made : Makes old new prefix
+  pub is_begun : IsBegun next begun
+  pub made : Makes old new (prefix ++ begun)
 
--- all of them, by what is answered; nothing where a name is refused, and else those in front of one
+-- the host has refused to make one of them
+abbrev pub HasRefusedOne : Scene → List Made → Type 0
+HasRefusedOne scene complete = (m : Made) × Contains complete m × HasRefusedMade scene m
+
+-- all of them, by what is answered; nothing if a name is refused, and otherwise those before one
 abbrev pub Extracts : Option ExtractFault → Option (List Made) → Option (List Made) → List Made → Type 0
 Extracts None old new complete = Makes old new complete
 Extracts (Some HostName) old new complete = new ≡ old

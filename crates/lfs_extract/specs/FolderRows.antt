@@ -7,7 +7,7 @@ use Rattle.lfs_extract.specs.declared.folder_row.FolderRow.{FolderRow}
 use Rattle.lfs_extract.specs.declared.folder_fault.FolderFault.{FolderFault}
 use Rattle.lfs_extract.specs.declared.folder_fault.FolderFault.TheVariants.{Memory, HostEntry, HostName, CannotRead}
 use Rattle.lfs_host.specs.HostTree.{HostNode, NothingThere, FileOf, FolderOf, OtherThere, HostTree}
-use Rattle.lfs_host.specs.Scene.{HasRefused, Scene}
+use Rattle.lfs_host.specs.Scene.{HasRefusedEntry, Scene}
 use Rattle.lfs_extract.specs.HostNames.{IsHostName}
 use Rattle.lfs_extract.specs.PathBelow.{name_in, host_name}
 
@@ -104,11 +104,15 @@ most_rows = 4194304
 abbrev pub HasTooMany : HostTree → List ℕ → Type 0
 HasTooMany tree dir = (paths : List Path) × PathsRise paths × All (IsBelow tree dir) paths × (most_rows < length paths)
 
--- why not all can be read: the host has refused something, or it names what isn't there, or more than an image can hold
-abbrev pub IsUnreadable : HostTree → List ℕ → Scene → Type 0
-IsUnreadable tree dir new = HasRefused new ⊎ HasGap tree dir ⊎ HasTooMany tree dir
+-- the host has refused to read something below a folder, or the folder
+abbrev pub HasRefusedBelow : HostTree → List ℕ → Scene → Type 0
+HasRefusedBelow tree dir new = (path : Path) × IsBelow tree dir path × HasRefusedEntry new (host_name dir path)
 
--- `CannotRead` comes only there, where the host is known
+-- why not all can be read: the host has refused that, or it names what isn't there, or more than an image can hold
+abbrev pub IsUnreadable : HostTree → List ℕ → Scene → Type 0
+IsUnreadable tree dir new = HasRefusedBelow tree dir new ⊎ HasGap tree dir ⊎ HasTooMany tree dir
+
+-- `CannotRead` comes only then, if the host is known
 abbrev pub BlamesHost : Option HostTree → List ℕ → Scene → FolderFault → Type 0
 BlamesHost known dir new CannotRead = IfSome known (λ tree. IsUnreadable tree dir new)
 BlamesHost known dir new _ = ⊤

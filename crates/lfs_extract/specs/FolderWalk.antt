@@ -7,7 +7,7 @@ use Rattle.lfs_extract.specs.declared.folder_row.FolderRow.{FolderRow}
 use Rattle.lfs_extract.specs.declared.folder_fault.FolderFault.{FolderFault}
 use Rattle.lfs_extract.specs.declared.folder_fault.FolderFault.TheVariants.{Memory, HostEntry, HostName, CannotRead}
 use Rattle.lfs_host.specs.HostTree.{FolderOf, HostTree, Lists}
-use Rattle.lfs_host.specs.Scene.{HasRefused, Scene}
+use Rattle.lfs_host.specs.Scene.{HasRefusedEntry, Scene}
 use Rattle.lfs_extract.specs.HostNames.{IsHostName, NamesAreInOrder}
 use Rattle.lfs_extract.specs.PathBelow.{name_in, host_name, text_below}
 use Rattle.lfs_extract.specs.FolderRows.{PathRow, folder_row, paths_of, IsRow, AreSpelled, IsInside, IsBelow, IsRight}
@@ -70,7 +70,7 @@ RefusesFolder folder HostEntry tree = ⊥
 RefusesFolder folder Memory tree = ⊤
 RefusesFolder folder CannotRead tree = ⊤
 
--- a known host's folder isn't entered, as one that can't be read, only where the host has refused something
-abbrev pub IsHostBlamed : Option HostTree → Scene → FolderFault → Type 0
-IsHostBlamed known new CannotRead = IfSome known (λ tree. HasRefused new)
-IsHostBlamed known new _ = ⊤
+-- a known host's folder isn't entered, as one that can't be read, only if the host has refused to list it
+abbrev pub IsHostBlamed : Option HostTree → List ℕ → Scene → FolderFault → Type 0
+IsHostBlamed known folder new CannotRead = IfSome known (λ tree. HasRefusedEntry new folder)
+IsHostBlamed known folder new _ = ⊤

@@ -6,9 +6,9 @@ ghost use Rattle.lfs_fs.specs.Listed.{rows_listed};
 ghost use Rattle.lfs_fs.specs.Mounted.{IsMountOf};
 ghost use Rattle.lfs_fs.specs.RowShown.{HasBlocks};
 ghost use Rattle.lfs_host.specs.NewFolder.{Makes};
-ghost use Rattle.lfs_host.specs.Scene.{HasRefused, KeepsFiles};
+ghost use Rattle.lfs_host.specs.Scene.{KeepsFiles};
 ghost use Rattle.lfs_listing.specs.Below.{names};
-ghost use Rattle.lfs_extract.specs.Extracted.{Extracts, HaveTexts, JudgesNames, MakesFront, all_made};
+ghost use Rattle.lfs_extract.specs.Extracted.{Extracts, HasRefusedOne, HaveTexts, JudgesNames, MakesFront, all_made};
 ghost use Rattle.lfs_extract.specs.RowsBelow.{rows_below};
 ghost use Rattle.lfs_extract.specs.TreeMade.{AreOfTree};
 ghost use Rattle.lfs_extract.specs.declared.extract_fault.ExtractFault.TheVariants.{CannotWrite, HostName};
@@ -39,7 +39,8 @@ fn make_rows<B: Blocks, F: NewFolder>(
         (all_made (B.disk disk.now) dir.now (rows_below (names at.now) (rows_listed rows.entry))))
         (λ fault. (fault ≢ HostName) × MakesFront (F.known folder.old).made (F.known folder.new).made
         (all_made (B.disk disk.now) dir.now (rows_below (names at.now) (rows_listed rows.entry)))) }
-    ensures blamed { IfErr result (λ fault. fault ≡ CannotWrite → HasRefused (F.known folder.new)) }
+    ensures blamed { IfErr result (λ fault. fault ≡ CannotWrite
+        → HasRefusedOne (F.known folder.new) (all_made (B.disk disk.now) dir.now (rows_below (names at.now) (rows_listed rows.entry)))) }
     ensures kept { KeepsFiles (F.known folder.old) (F.known folder.new) }
 {
     let mut prefix = SharedPrefix::new();
@@ -78,7 +79,8 @@ pub fn extract_rows<B: Blocks, F: NewFolder>(
     ensures tree { AreOfTree (B.disk disk.now) (names at.now) dir.now
         (all_made (B.disk disk.now) dir.now (rows_below (names at.now) mounted.now.rows)) }
     ensures names { JudgesNames (result_err result) (rows_below (names at.now) mounted.now.rows) }
-    ensures blamed { IfErr result (λ fault. fault ≡ CannotWrite → HasRefused (F.known folder.new)) }
+    ensures blamed { IfErr result (λ fault. fault ≡ CannotWrite
+        → HasRefusedOne (F.known folder.new) (all_made (B.disk disk.now) dir.now (rows_below (names at.now) mounted.now.rows))) }
     ensures kept { KeepsFiles (F.known folder.old) (F.known folder.new) }
 {
     rows_show_the_tree();

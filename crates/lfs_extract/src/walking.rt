@@ -92,7 +92,7 @@ impl FolderWalk {
         ensures entered { OnOk result (EntersFolder (H.known host.old).tree len folder.now self.old.rows.items self.new.rows.items
             (map (λ s. string_bytes s) (reverse self.old.waiting.items)) (map (λ s. string_bytes s) (reverse self.new.waiting.items))) }
         ensures refused { IfErr result (λ fault. IfSome (H.known host.old).tree (RefusesFolder folder.now fault)) }
-        ensures blamed { IfErr result (λ fault. IsHostBlamed (H.known host.old).tree (H.known host.new) fault) }
+        ensures blamed { IfErr result (λ fault. IsHostBlamed (H.known host.old).tree folder.now (H.known host.new) fault) }
         ensures kept { KeepsAll (H.known host.old) (H.known host.new) }
     {
         let listed = host.list(alloc, folder)?;

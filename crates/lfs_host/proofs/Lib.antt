@@ -1,3 +1,4 @@
 pub mod FileLemmas
+pub mod MadeLemmas
 pub mod BlameLemmas
 pub mod MemoryTreeLemmas

@@ -1,4 +1,5 @@
 pub mod Files
+pub mod HostCall
 pub mod HostTree
 pub mod NewFolder
 pub mod Scene

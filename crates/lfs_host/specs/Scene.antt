@@ -1,5 +1,5 @@
 -- What is known of a host (own).
-use Rattle.std.specs.Prelude.{◌≡◌, ℕ, Bool, true, false, List, Option, Some, None, ⊤, Contains, IfSome, Result, Ok, Err}
+use Rattle.std.specs.Prelude.{◌≡◌, ◌⊎◌, ℕ, Bool, true, false, List, ◌++◌, Option, Some, None, ⊤, Contains, IfSome, Result, Ok, Err}
 use Rattle.lfs_host.specs.declared.lock.Lock.{Lock}
 use Rattle.lfs_host.specs.declared.lock.Lock.TheVariants.{HeldByAnother}
 use Rattle.lfs_host.specs.declared.list_fault.ListFault.{ListFault}
@@ -7,14 +7,14 @@ use Rattle.lfs_host.specs.declared.list_fault.ListFault.TheVariants as listing
 use Rattle.lfs_host.specs.declared.read_fault.ReadFault.{ReadFault}
 use Rattle.lfs_host.specs.declared.read_fault.ReadFault.TheVariants as reading
 use Rattle.lfs_host.specs.Files.{Files}
+use Rattle.lfs_host.specs.HostCall.{BeginningFile, EndingFile, FillingFile, HostCall, Listing, Looking, MakingFolder, ReadingEntry}
 use Rattle.lfs_host.specs.HostTree.{HostTree}
-use Rattle.lfs_host.specs.NewFolder.{Made}
+use Rattle.lfs_host.specs.NewFolder.{FileMade, FolderMade, Made}
 
--- its files; what is left on standard input; what was printed, and how much of that was handed on; what there is under each name where
--- links aren't followed; what was made in new folders so far, in order, and what was written to the file that is being made there; the
--- names that this run has claimed: it holds the lock of the file that was there, or there was none; whether a lock was withheld from it,
--- since another run holds it; whether the host has refused something, of which names it has refused to say where they lead, or the lock
--- of their file, and whether it has refused a file another name: each where it is known
+-- its files; what is left on standard input; what was printed, and how much of that was handed on; what there is under each name, if links
+-- aren't followed; what was made in new folders so far, in order; the names that this run has claimed: it holds the lock of the file that
+-- was there, or there was none; whether a lock was withheld from it, since another run holds it; whether it has read a file whose name it
+-- hadn't claimed; and which calls the host has refused: each if it is known
 pub record Scene : Type 0 where
   pub files : Option Files
   pub typed : Option (List ℕ)
@@ -22,12 +22,10 @@ pub record Scene : Type 0 where
   pub flushed : Option (List ℕ)
   pub tree : Option HostTree
   pub made : Option (List Made)
-  pub filled : Option (List ℕ)
   pub claimed : Option (List (List ℕ))
   pub has_withheld : Option Bool
-  pub has_refused : Option Bool
-  pub has_refused_file : Option (List ℕ → Bool)
-  pub has_refused_place : Option Bool
+  pub has_read_unclaimed : Option Bool
+  pub refused : Option (HostCall → Bool)
 
 -- nothing is known
 abbrev pub unknown : Scene
@@ -38,12 +36,10 @@ unknown = record {
   flushed = None;
   tree = None;
   made = None;
-  filled = None;
   claimed = None;
   has_withheld = None;
-  has_refused = None;
-  has_refused_file = None;
-  has_refused_place = None;
+  has_read_unclaimed = None;
+  refused = None;
 }
 
 -- ---- what a call keeps
@@ -54,12 +50,11 @@ KeepsFiles old new = (new.files ≡ old.files) × (new.typed ≡ old.typed) × (
 
 -- so are they, and what there is under each name, and what was made
 abbrev pub KeepsSeen : Scene → Scene → Type 0
-KeepsSeen old new = KeepsFiles old new × (new.tree ≡ old.tree) × (new.made ≡ old.made) × (new.filled ≡ old.filled)
+KeepsSeen old new = KeepsFiles old new × (new.tree ≡ old.tree) × (new.made ≡ old.made)
 
 -- so are they all, and the names that are claimed
 abbrev pub KeepsAll : Scene → Scene → Type 0
-KeepsAll old new =
-    KeepsFiles old new × (new.tree ≡ old.tree) × (new.made ≡ old.made) × (new.filled ≡ old.filled) × (new.claimed ≡ old.claimed)
+KeepsAll old new = KeepsFiles old new × (new.tree ≡ old.tree) × (new.made ≡ old.made) × (new.claimed ≡ old.claimed)
 
 -- what was made, and the names that are claimed, are as they were
 abbrev pub KeepsBeside : Scene → Scene → Type 0
@@ -96,40 +91,44 @@ abbrev pub Claims : Scene → List ℕ → Lock → Type 0
 Claims new name HeldByAnother = HasWithheld new
 Claims new name _ = HasClaimed new name
 
+-- a name is claimed, or begins with one that is, as the name of a journal does with that of its image
+abbrev pub IsCovered : Scene → List ℕ → Type 0
+IsCovered scene name = (base rest : List ℕ) × (name ≡ base ++ rest) × HasClaimed scene base
+
+-- no file is read whose name isn't claimed
+abbrev pub KeepsTally : Scene → Scene → Type 0
+KeepsTally old new = new.has_read_unclaimed ≡ old.has_read_unclaimed
+
 -- ---- what the host refuses
 
--- it has, where that is known
-abbrev pub WasRefused : Option Bool → Type 0
-WasRefused refused = IfSome refused (λ is. is ≡ true)
+-- a call was refused, if that is known
+abbrev pub HasRefused : Scene → HostCall → Type 0
+HasRefused scene call = IfSome scene.refused (λ of. of call ≡ true)
 
--- the host has refused something, where that is known
-abbrev pub HasRefused : Scene → Type 0
-HasRefused scene = WasRefused scene.has_refused
+-- so was one that makes a folder or a file
+abbrev pub HasRefusedMade : Scene → Made → Type 0
+HasRefusedMade scene (FolderMade name) = HasRefused scene (MakingFolder name)
+HasRefusedMade scene (FileMade name bytes) =
+    HasRefused scene (BeginningFile name) ⊎ HasRefused scene FillingFile ⊎ HasRefused scene (EndingFile name)
 
--- a call that the host refuses is noted, and no other; it is no call that gives a file another name
-abbrev pub Notes : Bool → Scene → Scene → Type 0
-Notes true old new = HasRefused new × (new.has_refused_place ≡ old.has_refused_place)
-Notes false old new = (new.has_refused ≡ old.has_refused) × (new.has_refused_place ≡ old.has_refused_place)
+-- so was one that reads what is under a name of a folder
+abbrev pub HasRefusedEntry : Scene → List ℕ → Type 0
+HasRefusedEntry scene name = HasRefused scene (Looking name) ⊎ HasRefused scene (Listing name) ⊎ HasRefused scene (ReadingEntry name)
 
--- the host has refused to say where a name leads, or the lock of its file, where that is known
-abbrev pub HasRefusedFile : Scene → List ℕ → Type 0
-HasRefusedFile scene name = IfSome scene.has_refused_file (λ of. of name ≡ true)
+-- what was refused before stays so
+abbrev pub KeepsRefusals : Scene → Scene → Type 0
+KeepsRefusals old new = (call : HostCall) → HasRefused old call → HasRefused new call
 
--- that is noted with the name
-abbrev pub NotesFile : Bool → Scene → List ℕ → Type 0
-NotesFile true new name = HasRefusedFile new name
-NotesFile false new name = ⊤
+-- a call that the host refuses is noted, and no other
+abbrev pub Notes : HostCall → Bool → Scene → Scene → Type 0
+Notes call true old new = HasRefused new call × KeepsRefusals old new
+Notes call false old new = new.refused ≡ old.refused
 
--- a call that gives a file another name is noted as one that does, where the host refuses it
-abbrev pub NotesPlace : Bool → Scene → Scene → Type 0
-NotesPlace true old new = HasRefused new × WasRefused new.has_refused_place
-NotesPlace false old new = Notes false old new
-
--- whether what failed did so where a host has refused something, as far as that is known
-abbrev pub is_blamed : Bool → Option Bool → Bool
-is_blamed false refused = true
-is_blamed true None = true
-is_blamed true (Some refused) = refused
+-- whether what failed did so since a host has refused a call, as far as that is known
+abbrev pub is_blamed : Bool → Option (HostCall → Bool) → HostCall → Bool
+is_blamed false refused call = true
+is_blamed true None call = true
+is_blamed true (Some of) call = of call
 
 -- the host refuses to read
 abbrev pub refuses_reading : ReadFault → Bool

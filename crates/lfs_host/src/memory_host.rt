@@ -14,7 +14,7 @@ use crate::host_kind::HostKind;
 use crate::known::Known;
 use crate::list_fault::ListFault;
 use crate::lock::Lock;
-use crate::made_entry::MadeEntry;
+use crate::made_entry::{MadeEntry, fill_last};
 use crate::memory_files::{MemoryFiles, move_file, put, put_text, take};
 use crate::memory_tree::{below, kind_of, names_in};
 use crate::new_folder::NewFolder;
@@ -41,8 +41,6 @@ pub struct MemoryHost {
     pub reported: String,
     /// What was made in new folders, in order.
     pub made: Vec<MadeEntry>,
-    /// The bytes that were written to the file that is being made there.
-    pub filled: Vec<u8>,
     /// The names that were claimed.
     pub claimed: Vec<String>,
     /// How many bytes of what was printed were handed on.
@@ -51,8 +49,6 @@ pub struct MemoryHost {
     pub failing: Failing,
     /// Whether a call was refused.
     pub has_refused: bool,
-    /// Whether a file was refused another name.
-    pub has_refused_place: bool,
 }
 
 impl MemoryHost {
@@ -65,7 +61,6 @@ impl MemoryHost {
         ensures failing { result.failing ≡ Never }
         ensures claimed { result.claimed.items ≡ [] }
         ensures refused { result.has_refused ≡ false }
-        ensures placed { result.has_refused_place ≡ false }
     {
         MemoryHost {
             alloc,
@@ -74,12 +69,10 @@ impl MemoryHost {
             printed: Vec::new(alloc),
             reported: String::new(alloc),
             made: Vec::new(alloc),
-            filled: Vec::new(alloc),
             claimed: Vec::new(alloc),
             flushed: 0,
             failing: Failing::Never,
             has_refused: false,
-            has_refused_place: false,
         }
     }
 
@@ -149,12 +142,10 @@ impl Known for MemoryHost {
       flushed = Some (take host.flushed host.printed.items);
       tree = Some (tree_of host.files);
       made = Some (map made_as host.made.items);
-      filled = Some host.filled.items;
       claimed = Some (map string_bytes host.claimed.items);
       has_withheld = Some false;
-      has_refused = Some host.has_refused;
-      has_refused_file = Some (λ _. host.has_refused);
-      has_refused_place = Some host.has_refused_place;
+      has_read_unclaimed = Some false;
+      refused = Some (λ _. host.has_refused);
     } };
 }
 
@@ -162,7 +153,6 @@ impl MemoryHost {
     /// Counts a call that can be made to fail, and refuses it where it is the one.
     fn must_work(&mut self) -> Result<(), HostFault>
         ensures noted { self.new.has_refused ≡ is_err result || self.old.has_refused }
-        ensures placed { self.new.has_refused_place ≡ self.old.has_refused_place }
         ensures claimed { self.new.claimed ≡ self.old.claimed }
         ensures files { self.new.files ≡ self.old.files }
         ensures typed { self.new.typed ≡ self.old.typed }
@@ -206,7 +196,6 @@ impl MemoryHost {
             (λ _. self.new.made.items ≡ self.old.made.items) }
         ensures done { OnOk result (is_ok made ≡ true) }
         ensures noted { self.new.has_refused ≡ is_err result || self.old.has_refused }
-        ensures placed { self.new.has_refused_place ≡ self.old.has_refused_place }
         ensures claimed { self.new.claimed ≡ self.old.claimed }
         ensures files { self.new.files ≡ self.old.files }
         ensures typed { self.new.typed ≡ self.old.typed }
@@ -231,23 +220,22 @@ impl NewFolder for MemoryHost {
         self.keep(made)
     }
 
-    fn begin_file(&mut self, _name: &str) -> Result<(), HostFault> {
+    fn begin_file(&mut self, name: &str) -> Result<(), HostFault> {
         self.must_work()?;
-        self.filled.clear();
-        Ok(())
+        let made = MadeEntry::file(self.alloc, name);
+        self.keep(made)
     }
 
     fn fill(&mut self, bytes: &[u8]) -> Option<usize> {
-        if self.filled.extend_from_slice(bytes).is_err() {
+        if fill_last(&mut self.made, bytes).is_err() {
             self.has_refused = true;
             return None;
         }
         Some(bytes.len())
     }
 
-    fn end_file(&mut self, name: &str) -> Result<(), HostFault> {
-        let made = MadeEntry::file(self.alloc, name, &self.filled);
-        self.keep(made)
+    fn end_file(&mut self, _name: &str) -> Result<(), HostFault> {
+        Ok(())
     }
 }
 
@@ -332,11 +320,7 @@ impl Host for MemoryHost {
     }
 
     fn rename(&mut self, from: &str, to: &str) -> Result<(), HostFault> {
-        let settled = self.settle(from, to);
-        if settled.is_err() {
-            self.has_refused_place = true;
-        }
-        settled
+        self.settle(from, to)
     }
 
     fn settle(&mut self, from: &str, to: &str) -> Result<(), HostFault> {

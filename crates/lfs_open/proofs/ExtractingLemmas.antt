@@ -14,7 +14,10 @@ use Rattle.lfs_extract.specs.declared.extract_fault.ExtractFault.TheVariants.{Me
 use Rattle.lfs_host.specs.Files.{Files, ReadsFrom}
 use Rattle.lfs_host.specs.HostTree.{HostTree}
 use Rattle.lfs_host.specs.NewFolder.{Made}
-use Rattle.lfs_host.specs.Scene.{HasRefused, KeepsScene, Notes, Scene, refuses_reading}
+use Rattle.lfs_host.specs.HostCall.{HostCall, Looking}
+use Rattle.lfs_host.specs.Scene.{KeepsScene, Notes, Scene, refuses_reading}
+use Rattle.lfs_extract.specs.Extracted.{HasRefusedOne, all_made}
+use Rattle.lfs_extract.specs.RowsBelow.{rows_below}
 use Rattle.lfs_host.specs.declared.read_fault.ReadFault.{ReadFault}
 use Rattle.lfs_host.specs.declared.read_fault.ReadFault.TheVariants as reading
 use Rattle.lfs_command.specs.declared.refusal.Refusal.{Refusal}
@@ -22,7 +25,7 @@ use Rattle.lfs_fs.specs.Mounted.{MountedValue, IsMountOf}
 use Rattle.lfs_request.specs.Standing.{RefusesDirectory}
 use Rattle.lfs_exchange.specs.declared.step_kind.StepKind.{StepKind}
 use Rattle.lfs_exchange.specs.declared.step_kind.StepKind.TheVariants.{Asks}
-use Rattle.lfs_exchange.specs.Handing.{HandsImage, IsNotTakenUp, IsUnfound, IsUnread, fault_of_reading, most_image}
+use Rattle.lfs_exchange.specs.Handing.{HandsImage, IsNotTakenUp, IsUnreadBy, fault_of_reading, most_image}
 use Rattle.lfs_open.specs.Later.{later_alone, refused_by}
 use Rattle.lfs_open.specs.ReadBy.{IsReadBy}
 use Rattle.lfs_open.specs.Extracting.{EndsBytes, EndsExtract, EndsMaking, FindsFolder, HasDirectory, MakesRows, StopsMaking, fault_of_extracting}
@@ -32,12 +35,12 @@ use Rattle.lfs_fs.specs.Cause.{HasCause}
 use Rattle.lfs_request.specs.Fault.{fault_of_mount}
 
 -- what the host refuses to read
-pub unread : (fault : ReadFault) (old new : Scene) → Notes (refuses_reading fault) old new → IsUnread new (fault_of_reading fault)
-unread reading.Memory old new notes = refl
-unread reading.CannotRead old new notes = notes.0
+pub unread : (fault : ReadFault) (call : HostCall) (old new : Scene) → Notes call (refuses_reading fault) old new → IsUnreadBy call new (fault_of_reading fault)
+unread reading.Memory call old new notes = refl
+unread reading.CannotRead call old new notes = notes.0
 
 -- what isn't read ends it, and nothing is made
-unread_ends : (d : Disk) (text dir : List ℕ) (tree : Option HostTree) (old : Option (List Made)) (new : Scene) (fault : Fault) → IsUnread new fault
+unread_ends : (d : Disk) (text dir : List ℕ) (tree : Option HostTree) (old : Option (List Made)) (new : Scene) (fault : Fault) → IsUnreadBy (Looking dir) new fault
     → new.made ≡ old → StopsMaking d text dir tree old new fault
 unread_ends d text dir tree old new CannotRead unread same = (unread, same)
 unread_ends d text dir tree old new (Refused refusal) unread same = inr (unread, inl same)
@@ -45,7 +48,7 @@ unread_ends d text dir tree old new _ unread same = absurd unread
 
 -- on an image that mounts and has a directory at the path, what isn't missing ends it, and nothing is made
 pub there_ends : (d : Disk) (text : List ℕ) → HasDirectory d text → (dir : List ℕ) (tree : Option HostTree) (old : Option (List Made)) (new : Scene) (fault : Fault)
-    → IsUnread new fault ⊎ ((fault ≡ HostEntry) × FindsFolder dir tree old new.made) → new.made ≡ old → StopsMaking d text dir tree old new fault
+    → IsUnreadBy (Looking dir) new fault ⊎ ((fault ≡ HostEntry) × FindsFolder dir tree old new.made) → new.made ≡ old → StopsMaking d text dir tree old new fault
 there_ends d text mounts dir tree old new fault (inl is) same = unread_ends d text dir tree old new fault is same
 there_ends d text mounts dir tree old new fault (inr (is, finds)) same = subst (StopsMaking d text dir tree old new) (sym is) (mounts, finds)
 
@@ -67,19 +70,21 @@ unmounted_ends d text dir tree s cause r fault is same has =
     (subst (StopsMaking d text dir tree s.made s) (sym same) (cause_ends d text dir tree s cause has))
 
 -- the fault of a result is blamed where the result is
-pub fault_blamed : {T : Type 0} (made : Result T ExtractFault) (new : Scene) → IfErr made (λ fault. fault ≡ CannotWrite → HasRefused new)
-    → IfSome (result_err made) (λ fault. fault ≡ CannotWrite → HasRefused new)
-fault_blamed (Ok done) new blamed = tt
-fault_blamed (Err fault) new blamed = blamed
+pub fault_blamed : {T : Type 0} (made : Result T ExtractFault) (new : Scene) (complete : List Made)
+    → IfErr made (λ fault. fault ≡ CannotWrite → HasRefusedOne new complete)
+    → IfSome (result_err made) (λ fault. fault ≡ CannotWrite → HasRefusedOne new complete)
+fault_blamed (Ok done) new complete blamed = tt
+fault_blamed (Err fault) new complete blamed = blamed
 
 -- rows that were made end it, by what is told
 pub rows_end : (d : Disk) (text dir : List ℕ) (tree : Option HostTree) (old : Option (List Made)) (new : Scene) (why : Option ExtractFault)
-    → MakesRows d text dir tree old new.made why → IfSome why (λ fault. fault ≡ CannotWrite → HasRefused new)
+    → (makes : MakesRows d text dir tree old new.made why)
+    → IfSome why (λ fault. fault ≡ CannotWrite → HasRefusedOne new (all_made d dir (rows_below makes.at makes.mounted.rows)))
     → EndsMaking d text dir tree old new (option_map fault_of_extracting why)
 rows_end d text dir tree old new None makes blamed = makes
 rows_end d text dir tree old new (Some Memory) makes blamed = inr (refl, inr makes)
 rows_end d text dir tree old new (Some HostName) makes blamed = makes
-rows_end d text dir tree old new (Some CannotWrite) makes blamed = (blamed refl, makes)
+rows_end d text dir tree old new (Some CannotWrite) makes blamed = (makes, blamed refl)
 
 -- what is made of a disk is made of its bytes
 of_disk : (d : Disk) (text dir : List ℕ) (tree : Option HostTree) (old : Option (List Made)) (new : Scene) (fault : Option Fault) → IsDisk d
@@ -122,17 +127,7 @@ asked_read kind place files old name image is same hands =
     subst (λ (f : Option Files). ReadsFrom f name place most_image image) same
     (subst (λ (k : StepKind). HandsImage k place files name image) is hands)
 
--- a file that isn't taken up isn't read
-unfound_unread : (new : Scene) (name : List ℕ) (fault : Fault) → IsUnfound new name fault → IsUnread new fault
-unfound_unread new name CannotRead unfound = unfound.0
-unfound_unread new name (Refused refusal) unfound = unfound
-unfound_unread new name _ unfound = absurd unfound
-
-pub not_taken_unread : (new : Scene) (name : List ℕ) (fault : Fault) → IsNotTakenUp Asks new name fault → IsUnread new fault
-not_taken_unread new name fault (inl unfound) = unfound_unread new name fault unfound
-not_taken_unread new name fault (inr unread) = unread
-
 -- nor of a file that isn't read
 pub file_unread : (manner : Manner) (size : ℕ) (name text dir : List ℕ) (old new : Scene) (ended : Option Fault) (fault : Fault) → KeepsScene old new
-    → new.made ≡ old.made → ended ≡ Some fault → IsUnread new fault → EndsExtract manner size name text dir old new ended
+    → new.made ≡ old.made → ended ≡ Some fault → IsNotTakenUp Asks new name fault → EndsExtract manner size name text dir old new ended
 file_unread manner size name text dir old new ended fault keeps made_is is unread = (keeps, inl (made_is, (fault, is, unread)))

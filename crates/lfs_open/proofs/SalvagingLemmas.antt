@@ -13,7 +13,8 @@ use Rattle.lfs_request.specs.View.{start_of}
 use Rattle.lfs_request.specs.declared.fault.Fault.{Fault}
 use Rattle.lfs_request.specs.declared.fault.Fault.TheVariants.{Image, Mount, DamagedCommit, Refused}
 use Rattle.lfs_request.specs.declared.view.View.{View}
-use Rattle.lfs_exchange.specs.Handing.{IsUnread, most_image}
+use Rattle.lfs_exchange.specs.Handing.{IsNotTakenUp, most_image}
+use Rattle.lfs_exchange.specs.declared.step_kind.StepKind.TheVariants.{Asks}
 use Rattle.lfs_open.specs.Extracting.{EndsMaking}
 use Rattle.lfs_open.specs.ReadBy.{IsReadFrom}
 use Rattle.lfs_open.specs.Salvaging.{AreOwn, EndsImage, EndsSalvage, EndsSalvaged, EndsWhole, Finds, IsOther}
@@ -72,7 +73,7 @@ module _ (dir : List ℕ) (tree : Option HostTree) (old : Option (List Made)) (n
 
 -- nothing is saved of one that isn't read
 pub file_unsaved : (view : View) (size : ℕ) (name dir : List ℕ) (old new : Scene) (ended : Option Fault) (fault : Fault)
-    → KeepsScene old new → new.made ≡ old.made → ended ≡ Some fault → IsUnread new fault → EndsSalvage view size name dir old new ended
+    → KeepsScene old new → new.made ≡ old.made → ended ≡ Some fault → IsNotTakenUp Asks new name fault → EndsSalvage view size name dir old new ended
 file_unsaved view size name dir old new ended fault keeps made_is is unread = (keeps, inl (made_is, (fault, is, unread)))
 
 -- what is saved of its bytes

@@ -5,10 +5,12 @@ use Rattle.lfs_block.specs.Disk.{Disk}
 use Rattle.lfs_block.specs.declared.mount_fault.MountFault.{MountFault}
 use Rattle.lfs_extract.specs.declared.extract_fault.ExtractFault.{ExtractFault}
 use Rattle.lfs_extract.specs.declared.extract_fault.ExtractFault.TheVariants.{Memory, HostName, CannotWrite}
-use Rattle.lfs_exchange.specs.Handing.{IsUnread}
+use Rattle.lfs_exchange.specs.Handing.{IsUnreadBy}
 use Rattle.lfs_host.specs.HostTree.{HostTree, IsKind}
 use Rattle.lfs_host.specs.NewFolder.{Made}
-use Rattle.lfs_host.specs.Scene.{HasRefused, Scene}
+use Rattle.lfs_host.specs.HostCall.{Looking}
+use Rattle.lfs_host.specs.Scene.{Scene}
+use Rattle.lfs_salvage.specs.Below.{HasRefusedBelow}
 use Rattle.lfs_host.specs.declared.host_kind.HostKind.TheVariants.{Missing}
 use Rattle.lfs_request.specs.declared.fault.Fault.{Fault}
 use Rattle.lfs_request.specs.declared.fault.Fault.TheVariants.{Mount, Refused, CannotRead, HostEntry}
@@ -28,12 +30,12 @@ made_other (Some CannotWrite) = tt
 
 module _ (dir : List ℕ) (tree : Option HostTree) (old : Option (List Made)) (new : Scene) where
   -- what isn't read
-  unread_other : (fault : Fault) → IsUnread new fault → IsOther (Some fault)
+  unread_other : (fault : Fault) → IsUnreadBy (Looking dir) new fault → IsOther (Some fault)
   unread_other (Mount fault) unread = unread
   unread_other _ unread = tt
 
   -- or is there under the folder's name
-  pub there_other : (fault : Fault) → IsUnread new fault ⊎ ((fault ≡ HostEntry) × FindsFolder dir tree old new.made) → IsOther (Some fault)
+  pub there_other : (fault : Fault) → IsUnreadBy (Looking dir) new fault ⊎ ((fault ≡ HostEntry) × FindsFolder dir tree old new.made) → IsOther (Some fault)
   there_other fault (inl unread) = unread_other fault unread
   there_other fault (inr (is, finds)) = subst (λ (f : Fault). IsOther (Some f)) (sym is) tt
 
@@ -46,7 +48,7 @@ saved_from d e dir mid old new s same saves = subst (λ (made : Option (List Mad
 
 module _ (d e : Disk) (cause : MountFault) (dir : List ℕ) (tree : Option HostTree) (old : Option (List Made)) (new : Scene) where
   -- what isn't missing ends it, and nothing is made
-  pub there_unsaved : (fault : Fault) → IsUnread new fault ⊎ ((fault ≡ HostEntry) × FindsFolder dir tree old new.made) → new.made ≡ old
+  pub there_unsaved : (fault : Fault) → IsUnreadBy (Looking dir) new fault ⊎ ((fault ≡ HostEntry) × FindsFolder dir tree old new.made) → new.made ≡ old
       → EndsSaving d e cause dir tree old new (Some fault)
   there_unsaved CannotRead (inl unread) same = (unread, same)
   there_unsaved (Refused refusal) (inl unread) same = (unread, inl same)
@@ -54,14 +56,14 @@ module _ (d e : Disk) (cause : MountFault) (dir : List ℕ) (tree : Option HostT
   there_unsaved fault (inr (is, finds)) same = subst (λ (f : Fault). EndsSaving d e cause dir tree old new (Some f)) (sym is) finds
 
   -- what keeps a folder from being made ends it
-  stopped_so : (fault : ExtractFault) → IsKind tree dir Missing → StopsSaving d e dir old new.made fault → (fault ≡ CannotWrite → HasRefused new)
+  stopped_so : (fault : ExtractFault) → IsKind tree dir Missing → StopsSaving d e dir old new.made fault → (fault ≡ CannotWrite → HasRefusedBelow new dir)
       → EndsSaving d e cause dir tree old new (Some (fault_of_extracting fault))
   stopped_so Memory missing stops blamed = (refl, inr (missing, stops))
   stopped_so HostName missing stops blamed = absurd stops
   stopped_so CannotWrite missing stops blamed = (blamed refl, missing, stops)
 
   pub saving_stopped : (mid : Option (List Made)) (fault : ExtractFault) (told : Fault) → mid ≡ old → told ≡ fault_of_extracting fault
-      → IsKind tree dir Missing → StopsSaving d e dir mid new.made fault → (fault ≡ CannotWrite → HasRefused new)
+      → IsKind tree dir Missing → StopsSaving d e dir mid new.made fault → (fault ≡ CannotWrite → HasRefusedBelow new dir)
       → EndsSaving d e cause dir tree old new (Some told)
   saving_stopped mid fault told same is missing stops blamed =
       let so = subst (λ (made : Option (List Made)). StopsSaving d e dir made new.made fault) same stops in

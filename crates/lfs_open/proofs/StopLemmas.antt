@@ -19,7 +19,6 @@ keeps_all old mid new first then = (
   then.1 ∙ first.1,
   then.2 ∙ first.2,
   then.3 ∙ first.3,
-  then.4 ∙ first.4,
 )
 
 -- what is read from a place on

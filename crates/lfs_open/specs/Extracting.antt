@@ -11,18 +11,20 @@ use Rattle.lfs_request.specs.declared.fault.Fault.{Fault}
 use Rattle.lfs_request.specs.declared.manner.Manner.{Manner}
 use Rattle.lfs_request.specs.View.{start_of}
 use Rattle.lfs_request.specs.declared.fault.Fault.TheVariants.{Image, Mount, Refused, CannotRead, CannotWrite, HostEntry, HostName}
-use Rattle.lfs_extract.specs.Extracted.{Extracts, JudgesNames, all_made}
+use Rattle.lfs_extract.specs.Extracted.{Extracts, HasRefusedOne, JudgesNames, all_made}
 use Rattle.lfs_extract.specs.RowsBelow.{rows_below}
 use Rattle.lfs_extract.specs.declared.extract_fault.ExtractFault.{ExtractFault}
 use Rattle.lfs_extract.specs.declared.extract_fault.ExtractFault.TheVariants as extracting
 use Rattle.lfs_host.specs.Files.{ReadsFrom}
 use Rattle.lfs_host.specs.HostTree.{HostTree, IsKind}
 use Rattle.lfs_host.specs.NewFolder.{Made}
+use Rattle.lfs_host.specs.HostCall.{Looking}
 use Rattle.lfs_host.specs.Scene.{HasRefused, KeepsScene, Scene}
 use Rattle.lfs_host.specs.declared.host_kind.HostKind.{HostKind}
 use Rattle.lfs_host.specs.declared.host_kind.HostKind.TheVariants.{Missing}
 use Rattle.lfs_request.specs.Standing.{IsDirectoryThere, RefusesDirectory}
-use Rattle.lfs_exchange.specs.Handing.{IsUnread, most_image}
+use Rattle.lfs_exchange.specs.Handing.{IsNotTakenUp, most_image}
+use Rattle.lfs_exchange.specs.declared.step_kind.StepKind.TheVariants.{Asks}
 use Rattle.lfs_open.specs.Later.{later_alone, refused_by}
 use Rattle.lfs_open.specs.ReadBy.{IsReadBy}
 
@@ -71,8 +73,9 @@ abbrev pub StopsMaking : Disk → List ℕ → List ℕ → Option HostTree → 
 StopsMaking d text dir tree old new (Mount fault) = HasCause d fault × (new.made ≡ old)
 StopsMaking d text dir tree old new HostEntry = HasDirectory d text × FindsFolder dir tree old new.made
 StopsMaking d text dir tree old new HostName = MakesRows d text dir tree old new.made (Some extracting.HostName)
-StopsMaking d text dir tree old new CannotWrite = HasRefused new × MakesRows d text dir tree old new.made (Some extracting.CannotWrite)
-StopsMaking d text dir tree old new CannotRead = HasRefused new × (new.made ≡ old)
+StopsMaking d text dir tree old new CannotWrite =
+    (makes : MakesRows d text dir tree old new.made (Some extracting.CannotWrite)) × HasRefusedOne new (all_made d dir (rows_below makes.at makes.mounted.rows))
+StopsMaking d text dir tree old new CannotRead = HasRefused new (Looking dir) × (new.made ≡ old)
 StopsMaking d text dir tree old new (Refused r) =
     ((new.made ≡ old) × HasNoDirectory d text r)
     ⊎ ((r ≡ refusal.Memory) × ((new.made ≡ old) ⊎ MakesRows d text dir tree old new.made (Some extracting.Memory)))
@@ -103,5 +106,5 @@ EndsRead manner size bytes text dir tree old new fault =
 abbrev pub EndsExtract : Manner → ℕ → List ℕ → List ℕ → List ℕ → Scene → Scene → Option Fault → Type 0
 EndsExtract manner size name text dir old new fault =
     KeepsScene old new
-    × (((new.made ≡ old.made) × ((why : Fault) × (fault ≡ Some why) × IsUnread new why))
+    × (((new.made ≡ old.made) × ((why : Fault) × (fault ≡ Some why) × IsNotTakenUp Asks new name why))
     ⊎ ((bytes : List ℕ) × ReadsFrom old.files name (start_of manner.view) most_image bytes × EndsRead manner size bytes text dir old.tree old.made new fault))

@@ -2,10 +2,11 @@
 use Rattle.std.specs.Prelude.{ℕ, ◌≡◌, ◌≤◌, ◌⊎◌, List, Option, Some, None, length, take}
 use Rattle.std.specs.Io.KnownBytes.{Appends}
 use Rattle.lfs_command.specs.declared.refusal.Refusal.TheVariants.{Memory}
-use Rattle.lfs_exchange.specs.Handing.{IsUnread}
-use Rattle.lfs_exchange.specs.Printing.{IsFlushed, PrintsBeginning}
+use Rattle.lfs_exchange.specs.Handing.{IsUnreadBy}
+use Rattle.lfs_exchange.specs.Printing.{HasRefusedOutput, IsFlushed, PrintsBeginning}
 use Rattle.lfs_host.specs.Files.{ReadsFile}
-use Rattle.lfs_host.specs.Scene.{HasRefused, KeepsInput, Scene}
+use Rattle.lfs_host.specs.HostCall.{Reading}
+use Rattle.lfs_host.specs.Scene.{KeepsInput, Scene}
 use Rattle.lfs_request.specs.declared.fault.Fault.{Fault}
 use Rattle.lfs_request.specs.declared.fault.Fault.TheVariants.{CannotWrite, Refused}
 use Rattle.lfs_find.specs.Found.{AreFound}
@@ -20,7 +21,7 @@ most_flash = 9223372036854775807
 -- or one, perhaps all, where memory is wanting
 abbrev pub PrintsText : Option Fault → Scene → Scene → List ℕ → Type 0
 PrintsText None old new text = Appends old.printed new.printed text × IsFlushed new
-PrintsText (Some CannotWrite) old new text = PrintsBeginning old.printed new.printed text × HasRefused new
+PrintsText (Some CannotWrite) old new text = PrintsBeginning old.printed new.printed text × HasRefusedOutput new
 PrintsText (Some (Refused refusal)) old new text =
     (refusal ≡ Memory) × ((n : ℕ) × (n ≤ length text) × Appends old.printed new.printed (take n text))
 PrintsText _ old new text = ⊥
@@ -34,5 +35,5 @@ ListsFound bytes old new fault = (found : List Found) × AreFound bytes found ×
 abbrev pub EndsFinding : List ℕ → Scene → Scene → Option Fault → Type 0
 EndsFinding name old new fault =
     KeepsInput old new
-    × (((why : Fault) × (fault ≡ Some why) × IsUnread new why × (new.printed ≡ old.printed))
+    × (((why : Fault) × (fault ≡ Some why) × IsUnreadBy (Reading name) new why × (new.printed ≡ old.printed))
     ⊎ ((bytes : List ℕ) × ReadsFile old.files name most_flash bytes × ListsFound bytes old new fault))

@@ -71,7 +71,7 @@ JudgesSource size image _ = ⊥
 -- no image, or doesn't mount
 abbrev pub RefusesSource : SourceImage → Scene → Scene → Fault → Type 0
 RefusesSource source old new why =
-    IsOtherUnread new why
+    IsOtherUnread new source.file.now why
     ⊎ ((bytes : List ℕ) × ReadsFrom old.files source.file.now (start_of source.manner.view) most_image bytes
     × (refused_by source.manner (later_in_source source.size bytes) ≡ Some why))
     ⊎ ((image : List ℕ) × ReadsSource source old.files image × JudgesSource source.size image why)

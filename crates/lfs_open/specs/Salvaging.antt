@@ -11,6 +11,7 @@ use Rattle.lfs_fs.specs.Path.{path_text}
 use Rattle.lfs_host.specs.Files.{ReadsFrom}
 use Rattle.lfs_host.specs.HostTree.{HostTree, IsKind}
 use Rattle.lfs_host.specs.NewFolder.{Made}
+use Rattle.lfs_host.specs.HostCall.{Looking}
 use Rattle.lfs_host.specs.Scene.{HasRefused, KeepsScene, Scene}
 use Rattle.lfs_host.specs.declared.host_kind.HostKind.TheVariants.{Missing}
 use Rattle.lfs_lower.specs.Through.{IsLoweredThrough}
@@ -18,13 +19,15 @@ use Rattle.lfs_request.specs.View.{start_of}
 use Rattle.lfs_request.specs.declared.fault.Fault.{Fault}
 use Rattle.lfs_request.specs.declared.fault.Fault.TheVariants.{Image, Mount, DamagedCommit, Refused, CannotRead, CannotWrite, HostEntry}
 use Rattle.lfs_request.specs.declared.view.View.{View}
+use Rattle.lfs_salvage.specs.Below.{HasRefusedBelow}
 use Rattle.lfs_salvage.specs.Losses.{has_loss}
 use Rattle.lfs_salvage.specs.Saved.{SavesAll, StopsSaving}
 use Rattle.lfs_salvage.specs.declared.saved.Saved.{Saved}
 use Rattle.lfs_survey.specs.Damaged.{has_older}
 use Rattle.lfs_survey.specs.Survey.{IsSurvey}
 use Rattle.lfs_survey.specs.declared.survey.Survey.{Survey}
-use Rattle.lfs_exchange.specs.Handing.{IsUnread, most_image}
+use Rattle.lfs_exchange.specs.Handing.{IsNotTakenUp, most_image}
+use Rattle.lfs_exchange.specs.declared.step_kind.StepKind.TheVariants.{Asks}
 use Rattle.lfs_open.specs.Extracting.{EndsMaking, FindsFolder}
 use Rattle.lfs_open.specs.ReadBy.{IsReadFrom}
 
@@ -49,9 +52,9 @@ abbrev pub EndsSaving : Disk → Disk → MountFault → List ℕ → Option Hos
 EndsSaving d e cause dir tree old new None = SavesImage d e dir tree old new.made false
 EndsSaving d e cause dir tree old new (Some (Mount fault)) = (fault ≡ cause) × SavesImage d e dir tree old new.made true
 EndsSaving d e cause dir tree old new (Some HostEntry) = FindsFolder dir tree old new.made
-EndsSaving d e cause dir tree old new (Some CannotRead) = HasRefused new × (new.made ≡ old)
+EndsSaving d e cause dir tree old new (Some CannotRead) = HasRefused new (Looking dir) × (new.made ≡ old)
 EndsSaving d e cause dir tree old new (Some CannotWrite) =
-    HasRefused new × IsKind tree dir Missing × StopsSaving d e dir old new.made extracting.CannotWrite
+    HasRefusedBelow new dir × IsKind tree dir Missing × StopsSaving d e dir old new.made extracting.CannotWrite
 EndsSaving d e cause dir tree old new (Some (Refused r)) =
     (r ≡ refusal.Memory) × ((new.made ≡ old) ⊎ (IsKind tree dir Missing × StopsSaving d e dir old new.made extracting.Memory))
 EndsSaving d e cause dir tree old new _ = ⊥
@@ -108,6 +111,6 @@ EndsSalvaged size bytes image dir tree old new fault =
 abbrev pub EndsSalvage : View → ℕ → List ℕ → List ℕ → Scene → Scene → Option Fault → Type 0
 EndsSalvage view size name dir old new fault =
     KeepsScene old new
-    × (((new.made ≡ old.made) × ((why : Fault) × (fault ≡ Some why) × IsUnread new why))
+    × (((new.made ≡ old.made) × ((why : Fault) × (fault ≡ Some why) × IsNotTakenUp Asks new name why))
     ⊎ ((bytes : List ℕ) × ReadsFrom old.files name (start_of view) most_image bytes
     × ((image : List ℕ) × IsReadFrom view.offset true size bytes image × EndsSalvaged size bytes image dir old.tree old.made new fault)))

@@ -4,10 +4,11 @@ ghost use Rattle.std.specs.Prelude.{◌≡◌, ◌⊎◌, IfErr, OnOk};
 ghost use Rattle.std.specs.Option.{option_map};
 ghost use Rattle.std.specs.Result.{result_err};
 ghost use Rattle.lfs_request.specs.declared.fault.Fault.TheVariants.{HostEntry};
-ghost use Rattle.lfs_exchange.specs.Handing.{IsUnread};
+ghost use Rattle.lfs_exchange.specs.Handing.{IsUnreadBy};
 ghost use Rattle.lfs_fs.specs.Mounted.{IsMountOf};
 ghost use Rattle.lfs_host.specs.HostTree.{IsKind};
 ghost use Rattle.lfs_host.specs.declared.host_kind.HostKind.TheVariants.{Missing};
+ghost use Rattle.lfs_host.specs.HostCall.{Looking};
 ghost use Rattle.lfs_host.specs.Scene.{KeepsAll, KeepsFiles};
 ghost use Rattle.lfs_report.specs.Stop.{stopped_by};
 ghost use Rattle.lfs_open.specs.Extracting.{EndsBytes, EndsExtract, EndsMaking, FindsFolder, fault_of_extracting};
@@ -153,7 +154,7 @@ pub(crate) fn fault_of_extracting(fault: ExtractFault) -> Fault
 /// Refuses a folder under whose name there is something already.
 pub(crate) fn must_be_missing<H: Host>(host: &mut H, dir: &str) -> Result<(), Fault>
     ensures missing { OnOk result (IsKind (H.known host.old).tree dir.now Missing) }
-    ensures refused { IfErr result (λ fault. IsUnread (H.known host.new) fault ⊎ ((fault ≡ HostEntry) × FindsFolder dir.now (H.known host.old).tree (H.known host.old).made (H.known host.new).made)) }
+    ensures refused { IfErr result (λ fault. IsUnreadBy (Looking dir.now) (H.known host.new) fault ⊎ ((fault ≡ HostEntry) × FindsFolder dir.now (H.known host.old).tree (H.known host.old).made (H.known host.new).made)) }
     ensures kept { KeepsAll (H.known host.old) (H.known host.new) }
 {
     match host.kind(dir) {

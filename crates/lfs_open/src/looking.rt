@@ -2,10 +2,11 @@
 
 ghost use Rattle.std.specs.Prelude.{IfErr, IfOk};
 ghost use Rattle.std.specs.Result.{result_err};
-ghost use Rattle.lfs_exchange.specs.Handing.{IsUnread};
+ghost use Rattle.lfs_exchange.specs.Handing.{IsUnreadBy};
 ghost use Rattle.lfs_open.specs.Finding.{EndsFinding, PrintsText, most_flash};
 ghost use Rattle.lfs_open.specs.FoundText.{found_text};
 ghost use Rattle.lfs_host.specs.Files.{ReadsFile};
+ghost use Rattle.lfs_host.specs.HostCall.{Reading};
 ghost use Rattle.lfs_host.specs.Scene.{KeepsAll, KeepsInput};
 
 use crate::sending::send_found;
@@ -33,7 +34,7 @@ pub fn list_images<H: Host>(alloc: Global, host: &mut H, name: &str) -> Result<(
 /// The bytes of the file in which images are looked for.
 fn flash_bytes<H: Host>(alloc: Global, host: &mut H, name: &str) -> Result<Vec<u8>, Fault>
     ensures read { IfOk result (λ bytes. ReadsFile (H.known host.old).files name.now most_flash bytes.items) }
-    ensures refused { IfErr result (IsUnread (H.known host.new)) }
+    ensures refused { IfErr result (IsUnreadBy (Reading name.now) (H.known host.new)) }
     ensures kept { KeepsAll (H.known host.old) (H.known host.new) }
 {
     match host.read(alloc, name, 0, MOST_FLASH) {

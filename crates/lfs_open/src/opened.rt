@@ -3,7 +3,7 @@
 ghost use Rattle.std.specs.Prelude.{◌≡◌, ◌⊎◌, IfErr, IfOk};
 ghost use Rattle.lfs_command.specs.declared.refusal.Refusal.TheVariants.{Memory};
 ghost use Rattle.lfs_fs.specs.Mounted.{IsMountOf};
-ghost use Rattle.lfs_host.specs.Scene.{KeepsAll};
+ghost use Rattle.lfs_host.specs.Scene.{IsCovered, KeepsAll, KeepsTally};
 ghost use Rattle.lfs_request.specs.declared.fault.Fault.TheVariants.{Refused};
 ghost use Rattle.lfs_open.specs.Opened.{IsSourceOpened, IsOpenedAs, IsOpenedOn, RefusesMounting};
 ghost use Rattle.lfs_open.specs.Repacking.{JudgesSource, ReadsSource, RefusesSource};
@@ -40,6 +40,7 @@ pub fn open_source<H: Host>(
 ) -> Result<Opened, Stop>
     ensures opened { IfOk result (IsSourceOpened source.now (H.known host.old).files) }
     ensures refused { IfErr result (λ stop. RefusesSource source.now (H.known host.old) (H.known host.new) stop.fault) }
+    ensures tally { IsCovered (H.known host.old) source.now.file.now → KeepsTally (H.known host.old) (H.known host.new) }
     ensures kept { KeepsAll (H.known host.old) (H.known host.new) }
 {
     let bytes = source_bytes(alloc, host, context, source)?;
@@ -55,6 +56,7 @@ fn source_bytes<H: Host>(
 ) -> Result<Vec<u8>, Stop>
     ensures read { IfOk result (λ image. ReadsSource source.now (H.known host.old).files image.items) }
     ensures refused { IfErr result (λ stop. RefusesSource source.now (H.known host.old) (H.known host.new) stop.fault) }
+    ensures tally { IsCovered (H.known host.old) source.now.file.now → KeepsTally (H.known host.old) (H.known host.new) }
     ensures kept { KeepsAll (H.known host.old) (H.known host.new) }
 {
     let SourceImage { file, size, manner } = *source;

@@ -12,6 +12,7 @@ use Rattle.lfs_fs.specs.Thread.{Link}
 use Rattle.lfs_fs.proofs.FormattedLemmas.{empty_is_sound}
 use Rattle.lfs_law.proofs.LinksAdded.{contains_one}
 use Rattle.lfs_pack.specs.OutlinesTaken.{FitsNewPair}
+use Rattle.lfs_pack.specs.NewImages.{AllAreLaid}
 use Rattle.lfs_pack.specs.Unwritten.{AreThere, ErasedAreUnwritten}
 
 -- it has no files
@@ -20,6 +21,11 @@ none_inside x there = omega arith
 
 none_there : (size count : ℕ) (d : Disk) (l : Limits) → AreThere d (empty_volume size count l [])
 none_there size count d l k there x inside =
+    let bare : k.part.entries ≡ [] = ap (λ (m : Link). m.part.entries) (contains_one _ k there) in
+    absurd (none_inside x (subst (λ (es : List Entry). Contains es x) bare inside))
+
+none_laid : (size count : ℕ) (d : Disk) (l : Limits) → AllAreLaid d (empty_volume size count l [])
+none_laid size count d l k there x inside =
     let bare : k.part.entries ≡ [] = ap (λ (m : Link). m.part.entries) (contains_one _ k there) in
     absurd (none_inside x (subst (λ (es : List Entry). Contains es x) bare inside))
 
@@ -43,4 +49,5 @@ erased_are_unwritten size count d limits is ranges =
           (All-nil (FitsNewPair d (empty_volume size count limits [])));
       erased = λ b below none. is.erased b below;
       there = none_there size count d limits;
+      laid = none_laid size count d limits;
     }

@@ -50,6 +50,7 @@ unwritten_can_be_finished sound taken hold d v work = record {
         size = work.size ∙ sym outline.but.disk.size;
         count = work.count ∙ sym outline.but.disk.count;
         filled = new.filled;
+        laid = new.contents work.laid;
         erased = λ b lt none.
             let below : b < d.count = omega (arith, lt, outline.but.disk.count) in
             new.others b none ∙ work.erased b below none ∙ ap (λ (n : ℕ). replicate n 0xff) (sym outline.but.disk.size);

@@ -43,11 +43,13 @@ use Rattle.lfs_law.proofs.LinksAdded.{second_used}
 use Rattle.lfs_law.proofs.NamedBlocks.{supplies_once}
 use Rattle.lfs_law.proofs.WrittenLemmas.{pair_used, sum_thread}
 use Rattle.lfs_edit.specs.Carried.{IsHoldable}
+use Rattle.lfs_pack.specs.NewImages.{AllAreLaid}
 use Rattle.lfs_pack.specs.OutlinesTaken.{FitsNewPair, front_weight}
 use Rattle.lfs_pack.specs.Unwritten.{AreThere, CommandsGoOn, IsOfRow, IsReadyToWrite, LaysAndErases}
 use Rattle.lfs_pack.proofs.FitParts.{FitsRoom, left_fit}
 use Rattle.lfs_pack.proofs.KnownParts.{Known, OfNewPair, left_known}
-use Rattle.lfs_pack.proofs.StillThere.{bodies_kept, carried_there, still_there}
+use Rattle.lfs_pack.proofs.LaidBodies.{new_laid}
+use Rattle.lfs_pack.proofs.StillThere.{bodies_kept, carried_laid, carried_there, laid_kept, still_there}
 
 -- the laws that this stands on
 pub record GoingLaws : Type 0 where
@@ -288,6 +290,12 @@ module _ (laws : GoingLaws) (v w : Volume) (c : Command) (carries : CarriesOut c
       still_there laws.stay laws.content laid e w lays.others.disk.disk lays.left.disk.size (omega (arith, lays.left.disk.count))
       (λ b used. lays.left.others b (unfreed b used)) laid_there
 
+  still_laid : AllAreLaid e w
+  still_laid =
+      laid_kept laid e w lays.left.disk.size (λ b used. lays.left.others b (unfreed b used))
+      (carried_laid laws.join laid v c w carries (new_laid laid v c s lays.contents)
+      (laid_kept d laid v lays.others.disk.size (λ b used. lays.others.others b (unlaid b used)) work.laid))
+
   -- ---- the whole
 
   holdable : IsHoldable w
@@ -308,6 +316,7 @@ module _ (laws : GoingLaws) (v w : Volume) (c : Command) (carries : CarriesOut c
     fit = fit;
     erased = erased;
     there = there;
+    laid = still_laid;
   }
 
 pub commands_go_on : GoingLaws → CommandsGoOn

@@ -3,6 +3,7 @@ pub mod NewImagesHeld
 pub mod PairsFilled
 pub mod SoundOutlinesFit
 pub mod Ranges
+pub mod LaidBodies
 pub mod StillThere
 pub mod FinishedVolumes
 pub mod ErasedImages

@@ -26,7 +26,8 @@ use Rattle.lfs_law.proofs.OutlinesWritten.{links_outlined, outline_there, outlin
 use Rattle.lfs_fs.proofs.ChainedLemmas.{parts_of_links}
 use Rattle.lfs_law.proofs.WrittenLemmas.{chain_by, part_there, part_uses, sum_thread}
 use Rattle.lfs_pack.specs.Filled.{FillsPair, first_blocks}
-use Rattle.lfs_pack.specs.NewImages.{NewImagesHold, TakesVolume}
+use Rattle.lfs_pack.specs.NewImages.{AllAreLaid, NewImagesHold, TakesVolume}
+use Rattle.lfs_pack.proofs.LaidBodies.{laid_stays}
 use Rattle.lfs_pack.proofs.PairsFilled.{firsts_within, name_of}
 
 -- ---- chains stay, since their blocks are of no pair
@@ -121,6 +122,12 @@ module _ (found : FoundStay) (content : ContentStays) (d e : Disk) (v : Volume) 
   entry_there l there x inside =
       chain_there x.body (λ n used. takes.outline.but.others n (no_first n l x there inside used)) (takes.there l there x inside)
 
+  -- what is laid for a file still is
+  still_laid : AllAreLaid d v → AllAreLaid e v
+  still_laid all l there x inside =
+      laid_stays d e x.body takes.outline.but.disk.size (λ n used. takes.outline.but.others n (no_first n l x there inside used))
+      (all l there x inside)
+
   -- ---- each link is stored
 
   link_stored : (l : Link) → Contains (links v.directories) l → IsStored (reading_of e) (volume_bytes v) v.attributes l
@@ -163,5 +170,6 @@ new_images_hold found content by_links d e v takes = record {
   holds = by_links (reading_of e) v takes.sound (volume_held found content d e v takes);
   filled = of_links (λ (p : Part). FirstIsFilled e.size (block_of e p.pair.0) (block_of e p.pair.1)) v.directories
       (λ l there. (takes.outline.each (outlined_link l) (outline_there v l there)).filled);
+  contents = still_laid found content d e v takes;
   others = λ b none. takes.outline.but.others b (omega (arith, none, firsts_used b v));
 }

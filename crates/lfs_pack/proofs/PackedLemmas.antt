@@ -14,7 +14,7 @@ use Rattle.lfs_command.specs.declared.refusal.Refusal.TheVariants.{Memory}
 use Rattle.lfs_command.specs.Command.{Command}
 use Rattle.lfs_law.proofs.CarriedFollow.{CarriedFollow}
 use Rattle.lfs_edit.specs.Formatted.{disk_with}
-use Rattle.lfs_pack.specs.NewImages.{AreFilled}
+use Rattle.lfs_pack.specs.NewImages.{AllAreLaid, AreFilled}
 use Rattle.lfs_pack.specs.Lead.{Lead}
 use Rattle.lfs_pack.specs.declared.new_image.NewImage.{NewImage}
 use Rattle.lfs_pack.specs.declared.pack_row.PackRow.{PackRow}
@@ -117,5 +117,6 @@ packed follow map_of size count limits rows t d packs disk finished what are =
       led = to.1;
       at = map_of size count limits what to.0 are.packable to.1;
       filled = subst (λ (x : Disk). AreFilled x to.0) same done.filled;
+      laid = subst (λ (x : Disk). AllAreLaid x to.0) same done.laid;
       erased = subst (AreErasedBeside to.0) same done.erased;
     }

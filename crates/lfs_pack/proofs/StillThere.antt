@@ -5,9 +5,10 @@ use Rattle.std.proofs.lemmas.List.Elements.{All-contains, All-contains_itself, A
 use Rattle.std.proofs.lemmas.List.Folds.{flat_map-map}
 use Rattle.lfs_block.specs.Disk.{Disk, IsDisk, block_of}
 use Rattle.lfs_file.specs.Laws.{ContentStays, FoundStay}
+use Rattle.lfs_meta.specs.Body.{Pair}
 use Rattle.lfs_meta.specs.RunLaws.{RunsJoin}
 use Rattle.lfs_fs.specs.Directory.{Directory, Part, entries, parts, thread}
-use Rattle.lfs_fs.specs.Entry.{Body, Entry}
+use Rattle.lfs_fs.specs.Entry.{Body, Directory_at, Entry}
 use Rattle.lfs_fs.specs.Reading.{Reading, reading_of}
 use Rattle.lfs_fs.specs.Thread.{Link, links}
 use Rattle.lfs_fs.specs.Uses.{entry_uses, part_uses, uses}
@@ -23,20 +24,27 @@ use Rattle.lfs_command.specs.Planned.{CarriesOut}
 use Rattle.lfs_law.specs.OutlineLaws.{IsThere}
 use Rattle.lfs_law.proofs.CommandsWritten.{body_stays}
 use Rattle.lfs_law.proofs.KnownBodies.{Bodies, OfBodies, OfNew, by_parts, cut_bodies, edited_bodies, link_has}
-use Rattle.lfs_law.proofs.WrittenLemmas.{chain_by, sum_thread}
+use Rattle.lfs_law.proofs.WrittenLemmas.{chain_by, part_there, sum_thread}
+use Rattle.lfs_pack.specs.NewImages.{AllAreLaid, IsLaidBody}
 use Rattle.lfs_pack.specs.Unwritten.{AreThere}
+use Rattle.lfs_pack.proofs.LaidBodies.{laid_stays}
 
 -- ---- bodies that are there
 
 -- by parts
-parts_there : (d : Disk) (v : Volume) → AreThere d v → All (λ p. OfBodies (IsThere (reading_of d)) p.entries) (thread v.directories)
-parts_there d v there =
-    subst (All (λ (p : Part). OfBodies (IsThere (reading_of d)) p.entries)) (parts_of_links v.directories)
-    (All-map (λ (p : Part). OfBodies (IsThere (reading_of d)) p.entries) (λ (l : Link). l.part) (links v.directories)
-    (All-weaker (Contains (links v.directories)) (λ (l : Link). OfBodies (IsThere (reading_of d)) l.part.entries)
-    (λ l inside. All-weaker (Contains l.part.entries) (λ (x : Entry). IsThere (reading_of d) x.body) (there l inside) l.part.entries
+parts_have : (P : Body → Type 0) (v : Volume)
+    → ((l : Link) → Contains (links v.directories) l → (x : Entry) → Contains l.part.entries x → P x.body)
+    → All (λ p. OfBodies P p.entries) (thread v.directories)
+parts_have P v has =
+    subst (All (λ (p : Part). OfBodies P p.entries)) (parts_of_links v.directories)
+    (All-map (λ (p : Part). OfBodies P p.entries) (λ (l : Link). l.part) (links v.directories)
+    (All-weaker (Contains (links v.directories)) (λ (l : Link). OfBodies P l.part.entries)
+    (λ l inside. All-weaker (Contains l.part.entries) (λ (x : Entry). P x.body) (has l inside) l.part.entries
     (All-contains_itself l.part.entries))
     (links v.directories) (All-contains_itself (links v.directories))))
+
+parts_there : (d : Disk) (v : Volume) → AreThere d v → All (λ p. OfBodies (IsThere (reading_of d)) p.entries) (thread v.directories)
+parts_there d v there = parts_have (IsThere (reading_of d)) v there
 
 -- the blocks of a chain are used
 chain_used : (v : Volume) (p : Part) → Contains (thread v.directories) p → (x : Entry) → Contains p.entries x → (b : ℕ) → 0 < entry_uses b x
@@ -73,6 +81,13 @@ pub still_there : FoundStay → ContentStays → (d f : Disk) (v : Volume) → I
 still_there found content d f v disk size count stays there =
     link_has (IsThere (reading_of f)) v.directories (bodies_kept found content d f v disk size count stays there)
 
+-- what is laid for them too
+pub laid_kept : (d f : Disk) (v : Volume) → f.size ≡ d.size → ((b : ℕ) → 0 < uses b v → block_of f b ≡ block_of d b) → AllAreLaid d v
+    → AllAreLaid f v
+laid_kept d f v size stays all l there x inside =
+    laid_stays d f x.body size (λ b used. stays b (chain_used v l.part (part_there v.directories l there) x inside b used))
+    (all l there x inside)
+
 -- ---- what a command leaves
 
 -- marks taken off
@@ -82,13 +97,26 @@ clean_bodies P ds all =
     (All-weaker (λ (d : Directory). OfBodies P (entries d)) (λ (d : Directory). OfBodies P (entries (each_part cleaned d)))
     (λ d has. subst (OfBodies P) (sym (flat_map-map (λ (p : Part). p.entries) cleaned (parts d))) has) ds all)
 
--- what is there of the old bodies and of a file's new contents is there of those that a command leaves
+-- what holds of the old bodies and of a file's new contents holds of those that a command leaves
+carried_have : (P : Body → Type 0) → RunsJoin Entry → (v : Volume) (c : Command) (w : Volume) (carries : CarriesOut c v w)
+    → ((pair : Pair) → P (Directory_at pair)) → OfNew P v c carries.supplies → Bodies P v.directories
+    → (l : Link) → Contains (links w.directories) l → (x : Entry) → Contains l.part.entries x → P x.body
+carried_have P join v c w carries leads new all =
+    link_has P w.directories
+    (subst (λ (x : Volume). Bodies P x.directories) (sym carries.is)
+    (clean_bodies P (cut carries.chosen (edited v c carries.supplies)).directories
+    (cut_bodies join P carries.chosen (edited v c carries.supplies) carries.pairs.enough
+    (edited_bodies P v c carries.supplies leads new all))))
+
+-- so of those that are there
 pub carried_there : RunsJoin Entry → (r : Reading) (v : Volume) (c : Command) (w : Volume) (carries : CarriesOut c v w)
     → OfNew (IsThere r) v c carries.supplies → Bodies (IsThere r) v.directories
     → (l : Link) → Contains (links w.directories) l → (x : Entry) → Contains l.part.entries x → IsThere r x.body
-carried_there join r v c w carries new all =
-    link_has (IsThere r) w.directories
-    (subst (λ (x : Volume). Bodies (IsThere r) x.directories) (sym carries.is)
-    (clean_bodies (IsThere r) (cut carries.chosen (edited v c carries.supplies)).directories
-    (cut_bodies join (IsThere r) carries.chosen (edited v c carries.supplies) carries.pairs.enough
-    (edited_bodies (IsThere r) v c carries.supplies (λ pair. tt) new all))))
+carried_there join r v c w carries new all = carried_have (IsThere r) join v c w carries (λ pair. tt) new all
+
+-- what is laid for the old files and for a new one is laid for those that a command leaves
+pub carried_laid : RunsJoin Entry → (d : Disk) (v : Volume) (c : Command) (w : Volume) (carries : CarriesOut c v w)
+    → OfNew (IsLaidBody d) v c carries.supplies → AllAreLaid d v → AllAreLaid d w
+carried_laid join d v c w carries new all =
+    carried_have (IsLaidBody d) join v c w carries (λ pair. tt) new
+    (by_parts (IsLaidBody d) v.directories (parts_have (IsLaidBody d) v all))

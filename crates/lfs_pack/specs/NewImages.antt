@@ -1,10 +1,11 @@
 -- What an image holds into which the outline of a volume is written (own).
-use Rattle.std.specs.Prelude.{ℕ, ◌≡◌, Contains}
+use Rattle.std.specs.Prelude.{ℕ, ◌≡◌, Contains, map}
 use Rattle.lfs_block.specs.Disk.{Disk, IsDisk, block_of}
 use Rattle.lfs_command.specs.Clean.{IsClean}
 use Rattle.lfs_command.specs.PartWritten.{FirstIsFilled}
 use Rattle.lfs_fs.specs.Directory.{Part, thread}
-use Rattle.lfs_fs.specs.Entry.{Entry}
+use Rattle.lfs_file.specs.Laying.{laid}
+use Rattle.lfs_fs.specs.Entry.{Body, Inline, Chain, Directory_at, Entry}
 use Rattle.lfs_fs.specs.Holds.{Holds}
 use Rattle.lfs_fs.specs.Outlined.{outlined}
 use Rattle.lfs_fs.specs.Reading.{reading_of}
@@ -31,10 +32,21 @@ pub record TakesVolume (d e : Disk) (v : Volume) : Type 0 where
 abbrev pub AreFilled : Disk → Volume → Type 0
 AreFilled e v = (p : Part) → Contains (thread v.directories) p → FirstIsFilled e.size (block_of e p.pair.0) (block_of e p.pair.1)
 
--- Disk e holds a volume whose parts stand so; all that the volume doesn't use is as in d.
+-- the blocks of a file have what is laid in them for its bytes: all is erased after these
+abbrev pub IsLaidBody : Disk → Body → Type 0
+IsLaidBody d (Inline bytes) = Unit {0}
+IsLaidBody d (Chain blocks bytes) = map (block_of d) blocks ≡ laid d.size bytes blocks
+IsLaidBody d (Directory_at pair) = Unit {0}
+
+-- so have those of all files of a volume
+abbrev pub AllAreLaid : Disk → Volume → Type 0
+AllAreLaid d v = (l : Link) → Contains (links v.directories) l → (x : Entry) → Contains l.part.entries x → IsLaidBody d x.body
+
+-- Disk e holds a volume whose parts stand so; what is laid for its files in d still is; and all that the volume doesn't use is as in d.
 pub record HoldsNew (d e : Disk) (v : Volume) : Type 0 where
   pub holds : Holds (reading_of e) v
   pub filled : AreFilled e v
+  pub contents : AllAreLaid d v → AllAreLaid e v
   pub others : (b : ℕ) → uses b v ≡ 0 → block_of e b ≡ block_of d b
 
 -- the law: so it is then

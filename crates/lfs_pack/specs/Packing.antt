@@ -14,14 +14,15 @@ use Rattle.lfs_command.specs.declared.refusal.Refusal.TheVariants.{Memory}
 use Rattle.lfs_command.specs.Command.{Command}
 use Rattle.lfs_command.specs.Verdict.{verdict}
 use Rattle.lfs_edit.specs.Formatted.{disk_with}
-use Rattle.lfs_pack.specs.NewImages.{AreFilled}
+use Rattle.lfs_pack.specs.NewImages.{AllAreLaid, AreFilled}
 use Rattle.lfs_pack.specs.Finished.{AreErasedBeside}
 use Rattle.lfs_pack.specs.Packed.{Packed, commands, packed_at}
 use Rattle.lfs_pack.specs.Lead.{Lead}
 use Rattle.lfs_pack.specs.Stopped.{IsRowStopped}
 
 -- The bytes are an image with these limits, whose tree is the map of the rows. The volume is the one that the commands of the rows lead to
--- from a new one: each of its parts stands alone in the first block of its pair, and all that it doesn't use is erased.
+-- from a new one: each of its parts stands alone in the first block of its pair, the contents of files stand in their blocks, after which
+-- the last one of each file is erased, and all that the volume doesn't use is erased.
 pub record IsPacked (size count : ℕ) (limits : Limits) (rows : List Packed) (bytes : List ℕ) : Type 0 where
   pub disk : IsDisk (disk_with size count bytes)
   pub volume : Volume
@@ -31,6 +32,7 @@ pub record IsPacked (size count : ℕ) (limits : Limits) (rows : List Packed) (b
   pub led : Lead (commands rows) (empty_volume size count limits []) volume
   pub at : (p : Path) → tree volume p ≡ packed_at rows p
   pub filled : AreFilled (disk_with size count bytes) volume
+  pub laid : AllAreLaid (disk_with size count bytes) volume
   pub erased : AreErasedBeside volume (disk_with size count bytes)
 
 -- The next command of the rows is refused on a volume to which those before it lead from a new one.

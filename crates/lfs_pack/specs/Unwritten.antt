@@ -20,6 +20,7 @@ use Rattle.lfs_law.specs.PlansHold.{content_blocks}
 use Rattle.lfs_edit.specs.Carried.{IsHoldable, supplies_of}
 use Rattle.lfs_pack.specs.Finished.{AreErasedBeside, IsNewImageOf}
 use Rattle.lfs_pack.specs.Filled.{CanTakeOutline, TakesOutline}
+use Rattle.lfs_pack.specs.NewImages.{AllAreLaid}
 use Rattle.lfs_pack.specs.OutlinesTaken.{FitsNewPair}
 
 -- a command that rows have: to make a directory, to put a file, or to set an attribute
@@ -43,6 +44,7 @@ pub record IsReadyToWrite (d : Disk) (v : Volume) : Type 0 where
   pub fit : All (FitsNewPair d v) (thread v.directories)
   pub erased : AreErasedBeside v d
   pub there : AreThere d v
+  pub laid : AllAreLaid d v
 
 -- ---- how it begins, goes on and ends
 

@@ -1,6 +1,6 @@
 //! Packing rows of paths into a new image.
 
-ghost use Rattle.std.specs.Prelude.{IfErr, IfOk, List};
+ghost use Rattle.std.specs.Prelude.{◌≡◌, IfErr, IfOk, List, length};
 ghost use Rattle.lfs_block.specs.Geometry.{IsGeometry};
 ghost use Rattle.lfs_fs.specs.Limits.{new_limits};
 ghost use Rattle.lfs_fs.specs.Superblock.{IsLimits};
@@ -34,6 +34,7 @@ pub(crate) fn packed_image(
     requires geometry { IsGeometry size count }
     requires limits { IsLimits limits }
     ensures packed { IfOk result (λ t. PacksRows size count limits rows.now t) }
+    ensures counted { IfOk result (λ _. at.new ≡ length rows.now) }
     ensures refused { IfErr result (λ r. (packed : List Packed) → AreRowsOf rows.now packed → RefusesPack size count limits packed r) }
     ensures row { IfErr result (λ r. (packed : List Packed) → AreRowsOf rows.now packed → RefusesRow size count limits packed at.new r) }
 {
@@ -75,8 +76,8 @@ pub fn pack(alloc: Global, size: u32, count: u32, rows: &[PackRow<'_>]) -> Resul
 /// map of the rows. Contents go straight into the image, and each part of a directory is written once, into the first block of its pair.
 /// Takes time that is near-linear in bytes and rows. A refusal is what the next of these commands is refused with, with its numbers, once
 /// those before it are carried out: for each row but the root's, to make the directory or to put the file; then to set its attributes, one
-/// after another. `Memory` says only that a growth was refused. How many rows are added is put into `at`: for any other refusal that is the
-/// index of the row that is refused.
+/// after another. `Memory` says only that a growth was refused. How many rows are added is put into `at`: once an image is made all of them, and
+/// for any other refusal than `Memory` the index of the row that is refused.
 pub fn pack_within(
     alloc: Global,
     size: u32,
@@ -88,6 +89,7 @@ pub fn pack_within(
     requires geometry { IsGeometry size count }
     requires limits { IsLimits limits }
     ensures packed { IfOk result (λ bytes. (packed : List Packed) → AreRowsOf rows.now packed → IsPacked size count limits packed bytes.items) }
+    ensures counted { IfOk result (λ _. at.new ≡ length rows.now) }
     ensures refused { IfErr result (λ r. (packed : List Packed) → AreRowsOf rows.now packed → RefusesPack size count limits packed r) }
     ensures row { IfErr result (λ r. (packed : List Packed) → AreRowsOf rows.now packed → RefusesRow size count limits packed at.new r) }
 {

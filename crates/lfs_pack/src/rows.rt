@@ -100,6 +100,7 @@ pub(crate) fn add_rows(
     requires new { (v : Volume) × IsAtWork new.old v }
     requires few { at.old + length rows.now < 2 ^ 64 }
     ensures added { OnOk result (AddsRows rows.now new.old new.new) }
+    ensures counted { OnOk result (at.new ≡ at.old + length rows.now) }
     ensures refused { IfErr result (λ r. RefusesRows rows.now new.old at.old at.new r) }
 {
     packing_laws();

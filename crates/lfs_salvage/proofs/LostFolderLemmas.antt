@@ -1,13 +1,16 @@
 -- The folders for what no path leads to are below that of the image.
-use Rattle.std.proofs.Common.{◌≡◌, ℕ, ◌<◌, ◌^◌, true, List, ◌++◌, Option, ap, arith, length, refl, replicate, subst}
+use Rattle.std.proofs.Common.{◌≡◌, ℕ, ◌<◌, ◌^◌, true, List, ◌++◌, Option, Result, Ok, Err, ap, arith, length, refl, replicate, subst}
 use Rattle.std.proofs.lemmas.List.{length-append}
 use Rattle.std.proofs.lemmas.List.Elements.{All-append, All-replicate, All-weaker}
 use Rattle.std.specs.Fmt.{decimal}
-use Rattle.std.specs.Prelude.{All}
+use Rattle.std.specs.Prelude.{All, IfErr}
 use Rattle.lfs_extract.proofs.HostNameLemmas.{all_pass}
 use Rattle.lfs_extract.specs.HostNames.{IsHostName}
+use Rattle.lfs_extract.specs.declared.extract_fault.ExtractFault.{ExtractFault}
+use Rattle.lfs_extract.specs.declared.extract_fault.ExtractFault.TheVariants.{CannotWrite}
 use Rattle.lfs_host.specs.NewFolder.{Made}
-use Rattle.lfs_salvage.specs.Below.{IsMadeBelow, IsNameBelow, MakesBelow, name_made}
+use Rattle.lfs_host.specs.Scene.{Scene}
+use Rattle.lfs_salvage.specs.Below.{HasRefusedBelow, IsMadeBelow, IsNameBelow, MakesBelow, name_made}
 use Rattle.lfs_salvage.specs.Lost.{area_folder, first_block, lost_name, lost_word, tildes_in}
 use Rattle.lfs_salvage.specs.Saved.{lost_of, root_found}
 use Rattle.lfs_salvage.proofs.NumberLemmas.{decimal_word}
@@ -53,3 +56,13 @@ made_below top folder old new is m = record {
   made = m.made;
   below = All-weaker (IsMadeBelow folder) (IsMadeBelow top) (λ one there. below_below top folder (name_made one) is there) m.more m.below;
 }
+
+-- so is what the host has refused to make there
+refused_below : (top folder : List ℕ) (scene : Scene) → IsNameBelow top folder → HasRefusedBelow scene folder → HasRefusedBelow scene top
+refused_below top folder scene is (m, there, refused) = (m, below_below top folder (name_made m) is there, refused)
+
+pub blamed_below : {T : Type 0} (result : Result T ExtractFault) (top folder : List ℕ) (scene : Scene) → IsNameBelow top folder
+    → IfErr result (λ fault. fault ≡ CannotWrite → HasRefusedBelow scene folder)
+    → IfErr result (λ fault. fault ≡ CannotWrite → HasRefusedBelow scene top)
+blamed_below (Ok value) top folder scene is blamed = tt
+blamed_below (Err fault) top folder scene is blamed = λ same. refused_below top folder scene is (blamed same)

@@ -1,5 +1,5 @@
 -- What is saved of areas to which no path leads, one after another.
-use Rattle.std.proofs.Common.{◌≡◌, ℕ, ◌+◌, ◌<◌, Bool, true, false, List, [], ◌∷◌, ◌++◌, Option, length, get_or, drop, refl, ap, sym, subst, ◌∙◌}
+use Rattle.std.proofs.Common.{◌≡◌, ℕ, ◌+◌, ◌<◌, Bool, true, false, List, [], ◌∷◌, ◌++◌, Option, length, get_or, drop, refl, ap, sym, subst, ◌∙◌, inl}
 use Rattle.std.specs.Prelude.{if◌then◌else◌, slice_set}
 use Rattle.std.proofs.lemmas.List.{at_drop_more}
 use Rattle.lfs_block.specs.Disk.{Disk}
@@ -56,7 +56,9 @@ front_refused old new one rest same = record {
   prefix = [];
   next = one;
   rest = rest;
+  begun = [];
   split = refl;
+  is_begun = inl refl;
   made = subst (λ (x : Option (List Made)). Makes old x []) (sym same) (makes_nothing old);
 }
 

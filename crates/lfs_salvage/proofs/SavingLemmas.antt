@@ -1,12 +1,14 @@
 -- What is made, one after another.
-use Rattle.std.proofs.Common.{◌≡◌, ◌≢◌, ℕ, false, true, List, [], ◌∷◌, ◌++◌, Option, Result, Ok, Err, MatchResult, refl, ap, sym, subst, ◌∙◌, append_assoc, append-nil}
-use Rattle.std.specs.Prelude.{is_ok, IfErr}
+use Rattle.std.proofs.Common.{◌≡◌, ◌≢◌, ℕ, false, true, List, [], ◌∷◌, ◌++◌, Option, Result, Ok, Err, MatchResult, refl, ap, sym, subst, take, ◌∙◌, append_assoc, append-nil, inl, inr}
+use Rattle.std.specs.Prelude.{is_err, is_ok, All, IfErr}
 use Rattle.std.proofs.lemmas.List.Elements.{All-append, All-cons, All-nil}
-use Rattle.lfs_extract.specs.Extracted.{MakesFront}
+use Rattle.lfs_extract.specs.Extracted.{IsBegun, MakesFront, beginning}
 use Rattle.lfs_extract.specs.declared.extract_fault.ExtractFault.{ExtractFault}
 use Rattle.lfs_extract.specs.declared.extract_fault.ExtractFault.TheVariants.{Memory, HostName, CannotWrite}
 use Rattle.lfs_extract.proofs.MakingLemmas.{IsOnWay, makes_nothing, makes_then, on_way}
-use Rattle.lfs_host.specs.NewFolder.{Made, Makes}
+use Rattle.lfs_host.specs.HostCall.{HostCall}
+use Rattle.lfs_host.specs.NewFolder.{FileMade, FolderMade, Made, Makes}
+use Rattle.lfs_host.specs.Scene.{HasRefused, KeepsRefusals, Notes, Scene}
 use Rattle.lfs_salvage.specs.Below.{IsMadeBelow, MakesBelow}
 use Rattle.lfs_salvage.specs.Saving.{MakesFirst, Saves, Stops}
 
@@ -26,10 +28,13 @@ module _ (old mid : Option (List Made)) (here later complete : List Made) (h : I
     prefix = h.prefix ++ f.prefix;
     next = f.next;
     rest = f.rest ++ later;
+    begun = f.begun;
     split = append_assoc h.prefix f.prefix (f.next ∷ f.rest ++ later)
         ∙ ap (λ (xs : List Made). h.prefix ++ xs) (sym (append_assoc f.prefix (f.next ∷ f.rest) later) ∙ ap (λ (xs : List Made). xs ++ later) f.split)
         ∙ h.all;
-    made = makes_then old mid new h.prefix f.prefix h.made f.made;
+    is_begun = f.is_begun;
+    made = subst (Makes old new) (sym (append_assoc h.prefix f.prefix f.begun))
+        (makes_then old mid new h.prefix (f.prefix ++ f.begun) h.made f.made);
   }
 
   first_more : (new : Option (List Made)) → MakesFirst mid new here → MakesFirst old new complete
@@ -55,15 +60,22 @@ way_stops old new rest complete h = record { prefix = h.prefix; rest = rest; spl
 pub none_first : (old : Option (List Made)) (complete : List Made) → MakesFirst old old complete
 none_first old complete = way_stops old old complete complete (on_way old complete)
 
--- the host refuses one
-pub none_front : (old new : Option (List Made)) (one : Made) → new ≡ old → MakesFront old new (one ∷ [])
-none_front old new one same = record {
+-- the host refuses one, of which no more than a beginning is made
+pub begun_front : (old new : Option (List Made)) (one : Made) (begun : List Made) → IsBegun one begun → Makes old new begun
+    → MakesFront old new (one ∷ [])
+begun_front old new one begun is made = record {
   prefix = [];
   next = one;
   rest = [];
+  begun = begun;
   split = refl;
-  made = subst (λ (x : Option (List Made)). Makes old x []) (sym same) (makes_nothing old);
+  is_begun = is;
+  made = made;
 }
+
+pub none_front : (old new : Option (List Made)) (one : Made) → new ≡ old → MakesFront old new (one ∷ [])
+none_front old new one same =
+    begun_front old new one [] (inl refl) (subst (λ (x : Option (List Made)). Makes old x []) (sym same) (makes_nothing old))
 
 -- ---- below a folder
 
@@ -77,6 +89,18 @@ module _ (top : List ℕ) where
 
   pub one_below : (old new : Option (List Made)) (one : Made) → IsMadeBelow top one → Makes old new (one ∷ []) → MakesBelow top old new
   one_below old new one is made = record { more = one ∷ []; made = made; below = All-cons (IsMadeBelow top) one [] is (All-nil (IsMadeBelow top)) }
+
+  beginning_below : (n : ℕ) (one : Made) → IsMadeBelow top one → All (IsMadeBelow top) (beginning n one)
+  beginning_below n (FolderMade name) is = All-nil (IsMadeBelow top)
+  beginning_below n (FileMade name bytes) is = All-cons (IsMadeBelow top) (FileMade name (take n bytes)) [] is (All-nil (IsMadeBelow top))
+
+  all_begun : (one : Made) (begun : List Made) → IsMadeBelow top one → IsBegun one begun → All (IsMadeBelow top) begun
+  all_begun one begun is (inl none) = subst (All (IsMadeBelow top)) (sym none) (All-nil (IsMadeBelow top))
+  all_begun one begun is (inr (n, first)) = subst (All (IsMadeBelow top)) (sym first) (beginning_below n one is)
+
+  pub begun_below : (old new : Option (List Made)) (one : Made) (begun : List Made) → IsMadeBelow top one → IsBegun one begun → Makes old new begun
+      → MakesBelow top old new
+  begun_below old new one begun is beginning made = record { more = begun; made = made; below = all_begun one begun is beginning }
 
   pub below_then : (a b c : Option (List Made)) → MakesBelow top a b → MakesBelow top b c → MakesBelow top a c
   below_then a b c p q = record {
@@ -97,6 +121,17 @@ pub err_keeps : {E : Type 0} (result : Result (Unit {0}) E) (old new : Option (L
     → MatchResult result (λ _. Makes old new (one ∷ [])) (λ _. new ≡ old) → new ≡ old
 err_keeps (Ok done) old new one is made = absurd (cc)
 err_keeps (Err fault) old new one is same = same
+
+-- the host has refused it then
+pub err_refused : {E : Type 0} (result : Result (Unit {0}) E) (call : HostCall) (old mid new : Scene) → false ≡ is_ok result
+    → Notes call (is_err result) old mid → KeepsRefusals mid new → HasRefused new call
+err_refused (Ok done) call old mid new is notes keeps = absurd (cc)
+err_refused (Err fault) call old mid new is notes keeps = keeps call notes.0
+
+-- what holds in any case holds if the host is blamed
+pub blames : {T : Type 0} {P : Type 0} (result : Result T ExtractFault) → P → IfErr result (λ fault. fault ≡ CannotWrite → P)
+blames (Ok value) is = tt
+blames (Err fault) is = λ _. is
 
 -- one is to be made, and it ends before that
 pub nothing_stops : (fault : ExtractFault) (old new : Option (List Made)) (one : Made) → fault ≢ HostName → new ≡ old

@@ -4,6 +4,7 @@ use Rattle.lfs_extract.specs.HostNames.{IsHostName}
 use Rattle.lfs_extract.specs.PathBelow.{host_name}
 use Rattle.lfs_fs.specs.Path.{Path}
 use Rattle.lfs_host.specs.NewFolder.{Made, FolderMade, FileMade, Makes}
+use Rattle.lfs_host.specs.Scene.{HasRefusedMade, Scene}
 
 -- the name of what is made
 abbrev pub name_made : Made → List ℕ
@@ -24,3 +25,7 @@ pub record MakesBelow (base : List ℕ) (old new : Option (List Made)) : Type 0 
   pub more : List Made
   pub made : Makes old new more
   pub below : All (IsMadeBelow base) more
+
+-- the host has refused to make something below a folder
+abbrev pub HasRefusedBelow : Scene → List ℕ → Type 0
+HasRefusedBelow scene base = (m : Made) × IsMadeBelow base m × HasRefusedMade scene m

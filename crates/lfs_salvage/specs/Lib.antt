@@ -2,6 +2,7 @@ pub mod Fate
 pub mod FateHeld
 pub mod Unsaved
 pub mod Word
+pub mod Naming
 pub mod Numbered
 pub mod Folder
 pub mod AreaMade

@@ -115,8 +115,8 @@ pub record SavesSome (d e : Disk) (dir : List ℕ) (Stops : List Made → Type 0
       × AreLeft e survey (survey_uses d (uses_first d survey.areas.items) survey.areas.items) lone
       × Stops (image_made d dir numbered others survey.areas.items lone))
 
--- what is made where a fault ends it: what is in front of something that the host refuses; or where memory is refused nothing, or what is
--- in front
+-- what is made if a fault ends it: what is before something that the host refuses, and a beginning of that at most; or if memory is refused
+-- nothing, or what is in front
 abbrev pub StopsSaving : Disk → Disk → List ℕ → Option (List Made) → Option (List Made) → ExtractFault → Type 0
 StopsSaving d e dir old new CannotWrite = SavesSome d e dir (MakesFront old new)
 StopsSaving d e dir old new Memory = (new ≡ old) ⊎ SavesSome d e dir (MakesFirst old new)

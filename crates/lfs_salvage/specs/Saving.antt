@@ -12,7 +12,8 @@ pub record MakesFirst (old new : Option (List Made)) (complete : List Made) : Ty
   pub split : prefix ++ rest ≡ complete
   pub made : Makes old new prefix
 
--- what is made where the fault ends it: those in front of one that the host refuses, or those in front where memory is refused
+-- what is made if a fault ends it: those before one that the host refuses, and a beginning of that one at most, or those in front if memory
+-- is refused
 abbrev pub Stops : ExtractFault → Option (List Made) → Option (List Made) → List Made → Type 0
 Stops CannotWrite old new complete = MakesFront old new complete
 Stops Memory old new complete = MakesFirst old new complete

@@ -3,9 +3,9 @@
 ghost use Rattle.std.specs.Prelude.{◌≡◌, ◌++◌, [], ◌∷◌, Bool, ℕ, List, All, IfErr, IfOk, OnOk, map, slice_index_or, string_bytes};
 ghost use Rattle.lfs_extract.specs.declared.extract_fault.ExtractFault.TheVariants.{CannotWrite, Memory};
 ghost use Rattle.lfs_host.specs.NewFolder.{FolderMade};
-ghost use Rattle.lfs_host.specs.Scene.{HasRefused, KeepsFiles};
+ghost use Rattle.lfs_host.specs.Scene.{KeepsFiles};
 ghost use Rattle.lfs_salvage.specs.AreaMade.{folder_made};
-ghost use Rattle.lfs_salvage.specs.Below.{IsNameBelow, MakesBelow};
+ghost use Rattle.lfs_salvage.specs.Below.{HasRefusedBelow, IsNameBelow, MakesBelow};
 ghost use Rattle.lfs_salvage.specs.Folder.{block_of_found, folder_at, name_at, way_at};
 ghost use Rattle.lfs_salvage.specs.Saving.{Saves};
 
@@ -67,7 +67,7 @@ fn make_base<F: NewFolder>(
     ensures value { IfOk result (λ name. string_bytes name ≡ base.now) }
     ensures made { Saves result (F.known folder.old).made (F.known folder.new).made (FolderMade base.now ∷ []) }
     ensures below { (top : List ℕ) → IsNameBelow top base.now → MakesBelow top (F.known folder.old).made (F.known folder.new).made }
-    ensures blamed { IfErr result (λ fault. fault ≡ CannotWrite → HasRefused (F.known folder.new)) }
+    ensures blamed { (top : List ℕ) → IsNameBelow top base.now → IfErr result (λ fault. fault ≡ CannotWrite → HasRefusedBelow (F.known folder.new) top) }
     ensures kept { KeepsFiles (F.known folder.old) (F.known folder.new) }
 {
     let name = name_of(alloc, base)?;
@@ -116,7 +116,8 @@ pub(crate) fn start_folder<F: NewFolder>(
         → IfOk result (λ name. IsNameBelow top (string_bytes name)) }
     ensures below { (top : List ℕ) → IsNameBelow top base.now → All (λ f. IsNameBelow top (string_bytes f)) folders.now
         → MakesBelow top (F.known folder.old).made (F.known folder.new).made }
-    ensures blamed { IfErr result (λ fault. fault ≡ CannotWrite → HasRefused (F.known folder.new)) }
+    ensures blamed { (top : List ℕ) → IsNameBelow top base.now → All (λ f. IsNameBelow top (string_bytes f)) folders.now
+        → IfErr result (λ fault. fault ≡ CannotWrite → HasRefusedBelow (F.known folder.new) top) }
     ensures kept { KeepsFiles (F.known folder.old) (F.known folder.new) }
 {
     match way {

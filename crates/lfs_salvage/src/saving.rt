@@ -2,9 +2,9 @@
 
 ghost use Rattle.std.specs.Prelude.{◌≡◌, ◌++◌, ℕ, List, All, IfErr, IfOk, OnOk, map, string_bytes};
 ghost use Rattle.lfs_extract.specs.declared.extract_fault.ExtractFault.TheVariants.{CannotWrite};
-ghost use Rattle.lfs_host.specs.Scene.{HasRefused, KeepsFiles};
+ghost use Rattle.lfs_host.specs.Scene.{KeepsFiles};
 ghost use Rattle.lfs_salvage.specs.AreaMade.{area_made, area_unsaved, area_uses, call_made, folder_of, found_unsaved, found_uses};
-ghost use Rattle.lfs_salvage.specs.Below.{IsNameBelow, MakesBelow};
+ghost use Rattle.lfs_salvage.specs.Below.{HasRefusedBelow, IsNameBelow, MakesBelow};
 ghost use Rattle.lfs_salvage.specs.Numbered.{Numbered};
 ghost use Rattle.lfs_salvage.specs.Saving.{Saves};
 
@@ -42,7 +42,8 @@ fn save_found<B: Blocks, F: NewFolder>(
         → IfOk result (λ name. IsNameBelow top (string_bytes name)) }
     ensures below { (top : List ℕ) → IsNameBelow top base.now → All (λ f. IsNameBelow top (string_bytes f)) folders.now
         → MakesBelow top (F.known folder.old).made (F.known folder.new).made }
-    ensures blamed { IfErr result (λ fault. fault ≡ CannotWrite → HasRefused (F.known folder.new)) }
+    ensures blamed { (top : List ℕ) → IsNameBelow top base.now → All (λ f. IsNameBelow top (string_bytes f)) folders.now
+        → IfErr result (λ fault. fault ≡ CannotWrite → HasRefusedBelow (F.known folder.new) top) }
     ensures kept { KeepsFiles (F.known folder.old) (F.known folder.new) }
 {
     let part = match found {
@@ -89,7 +90,7 @@ pub(crate) fn save_area<B: Blocks, F: NewFolder>(
     ensures unsaved { OnOk result (salvage.new.unsaved.items
         ≡ salvage.old.unsaved.items ++ area_unsaved (B.disk disk.now) number salvage.old.uses.items area.now) }
     ensures below { MakesBelow base.now (F.known folder.old).made (F.known folder.new).made }
-    ensures blamed { IfErr result (λ fault. fault ≡ CannotWrite → HasRefused (F.known folder.new)) }
+    ensures blamed { IfErr result (λ fault. fault ≡ CannotWrite → HasRefusedBelow (F.known folder.new) base.now) }
     ensures kept { KeepsFiles (F.known folder.old) (F.known folder.new) }
 {
     let mut folders = Vec::new(alloc);

@@ -7,10 +7,10 @@ ghost use Rattle.lfs_extract.specs.declared.extract_fault.ExtractFault.TheVarian
 ghost use Rattle.lfs_extract.specs.PathBelow.{name_in};
 ghost use Rattle.lfs_fs.specs.RowHeld.{row_body_held};
 ghost use Rattle.lfs_fs.specs.RowShown.{HasBlocks};
-ghost use Rattle.lfs_host.specs.Scene.{HasRefused, KeepsFiles};
+ghost use Rattle.lfs_host.specs.Scene.{KeepsFiles};
 ghost use Rattle.lfs_meta.specs.BodyHeld.{body_held};
 ghost use Rattle.lfs_salvage.specs.AreaMade.{entries_made, entries_unsaved, entries_uses, entry_made, uses_by_entry, file_made, call_parent};
-ghost use Rattle.lfs_salvage.specs.Below.{IsNameBelow, MakesBelow};
+ghost use Rattle.lfs_salvage.specs.Below.{HasRefusedBelow, IsNameBelow, MakesBelow};
 ghost use Rattle.lfs_salvage.specs.Fate.{HasFileBlocks, fate, saved_bytes};
 ghost use Rattle.lfs_salvage.specs.FateHeld.{fate_held};
 ghost use Rattle.lfs_salvage.specs.Saving.{Saves};
@@ -65,7 +65,7 @@ fn make_named<B: Blocks, F: NewFolder>(
         (file_made (name_in above.now (entry_word numbered named.entry.block named.entry.index named.entry.name.now))
         (Some (held_bytes (B.disk disk.now) (row_body_held body.now)))) }
     ensures below { (top : List ℕ) → IsNameBelow top above.now → MakesBelow top (F.known folder.old).made (F.known folder.new).made }
-    ensures blamed { IfErr result (λ fault. fault ≡ CannotWrite → HasRefused (F.known folder.new)) }
+    ensures blamed { (top : List ℕ) → IsNameBelow top above.now → IfErr result (λ fault. fault ≡ CannotWrite → HasRefusedBelow (F.known folder.new) top) }
     ensures kept { KeepsFiles (F.known folder.old) (F.known folder.new) }
 {
     let name = begin_file(alloc, above, named, folder)?;
@@ -89,7 +89,7 @@ fn make_entry<B: Blocks, F: NewFolder>(
         (file_made (name_in above.now (entry_word numbered block index entry.now.name))
         (saved_bytes (B.disk disk.now) entry.now.body (fate_held body.now))) }
     ensures below { (top : List ℕ) → IsNameBelow top above.now → MakesBelow top (F.known folder.old).made (F.known folder.new).made }
-    ensures blamed { IfErr result (λ fault. fault ≡ CannotWrite → HasRefused (F.known folder.new)) }
+    ensures blamed { (top : List ℕ) → IsNameBelow top above.now → IfErr result (λ fault. fault ≡ CannotWrite → HasRefusedBelow (F.known folder.new) top) }
     ensures kept { KeepsFiles (F.known folder.old) (F.known folder.new) }
 {
     let Some(row) = saved_body(&entry.body, body) else {
@@ -120,7 +120,7 @@ fn save_entry<B: Blocks, F: NewFolder>(
     ensures unsaved { OnOk result (salvage.new.unsaved.items
         ≡ salvage.old.unsaved.items ++ unsaved parent (fate (B.disk disk.now) salvage.old.uses.items entry.now)) }
     ensures below { (top : List ℕ) → IsNameBelow top above.now → MakesBelow top (F.known folder.old).made (F.known folder.new).made }
-    ensures blamed { IfErr result (λ fault. fault ≡ CannotWrite → HasRefused (F.known folder.new)) }
+    ensures blamed { (top : List ℕ) → IsNameBelow top above.now → IfErr result (λ fault. fault ≡ CannotWrite → HasRefusedBelow (F.known folder.new) top) }
     ensures kept { KeepsFiles (F.known folder.old) (F.known folder.new) }
 {
     let body = file_of(alloc, disk, &salvage.uses, entry)?;
@@ -157,7 +157,7 @@ pub(crate) fn save_entries<B: Blocks, F: NewFolder>(
     ensures unsaved { OnOk result (salvage.new.unsaved.items
         ≡ salvage.old.unsaved.items ++ entries_unsaved (B.disk disk.now) salvage.old.uses.items area call 0 entries.now) }
     ensures below { (top : List ℕ) → IsNameBelow top above.now → MakesBelow top (F.known folder.old).made (F.known folder.new).made }
-    ensures blamed { IfErr result (λ fault. fault ≡ CannotWrite → HasRefused (F.known folder.new)) }
+    ensures blamed { (top : List ℕ) → IsNameBelow top above.now → IfErr result (λ fault. fault ≡ CannotWrite → HasRefusedBelow (F.known folder.new) top) }
     ensures kept { KeepsFiles (F.known folder.old) (F.known folder.new) }
 {
     'each: for (index, entry) in entries.iter().enumerate() {

@@ -2,9 +2,9 @@
 
 ghost use Rattle.std.specs.Prelude.{◌≡◌, ◌++◌, List, IfErr, IfOk, OnOk, if◌then◌else◌, length, slice_set, true};
 ghost use Rattle.lfs_extract.specs.declared.extract_fault.ExtractFault.TheVariants.{CannotWrite};
-ghost use Rattle.lfs_host.specs.Scene.{HasRefused, KeepsFiles};
+ghost use Rattle.lfs_host.specs.Scene.{KeepsFiles};
 ghost use Rattle.lfs_salvage.specs.AllMade.{marked_used};
-ghost use Rattle.lfs_salvage.specs.Below.{IsNameBelow, MakesBelow};
+ghost use Rattle.lfs_salvage.specs.Below.{HasRefusedBelow, IsNameBelow, MakesBelow};
 ghost use Rattle.lfs_salvage.specs.Fate.{is_free};
 ghost use Rattle.lfs_salvage.specs.Lost.{front_behind_root};
 ghost use Rattle.lfs_salvage.specs.Saved.{AreLeft, SavesAll, StopsSaving, survey_front, survey_made, survey_unsaved, survey_uses};
@@ -55,7 +55,7 @@ fn save_survey<B: Blocks, F: NewFolder>(
         ≡ salvage.old.unsaved.items ++ survey_unsaved (B.disk disk.now) salvage.old.uses.items areas.now) }
     ensures front { OnOk result (front.new ≡ survey_front areas.now) }
     ensures below { MakesBelow dir.now (F.known folder.old).made (F.known folder.new).made }
-    ensures blamed { IfErr result (λ fault. fault ≡ CannotWrite → HasRefused (F.known folder.new)) }
+    ensures blamed { IfErr result (λ fault. fault ≡ CannotWrite → HasRefusedBelow (F.known folder.new) dir.now) }
     ensures kept { KeepsFiles (F.known folder.old) (F.known folder.new) }
 {
     *front = Front::Both;
@@ -127,7 +127,7 @@ pub fn save_image<B: Blocks, C: Blocks, F: NewFolder>(
     ensures stopped { IfErr result
         (StopsSaving (B.disk disk.now) (C.disk parts.now) dir.now (F.known folder.old).made (F.known folder.new).made) }
     ensures below { MakesBelow dir.now (F.known folder.old).made (F.known folder.new).made }
-    ensures blamed { IfErr result (λ fault. fault ≡ CannotWrite → HasRefused (F.known folder.new)) }
+    ensures blamed { IfErr result (λ fault. fault ≡ CannotWrite → HasRefusedBelow (F.known folder.new) dir.now) }
     ensures kept { KeepsFiles (F.known folder.old) (F.known folder.new) }
 {
     let mut survey = survey_all(alloc, parts)?;

@@ -2,9 +2,9 @@
 
 ghost use Rattle.std.specs.Prelude.{◌≡◌, ◌+◌, ◌<◌, ◌^◌, ◌++◌, List, IfErr, OnOk, length};
 ghost use Rattle.lfs_extract.specs.declared.extract_fault.ExtractFault.TheVariants.{CannotWrite};
-ghost use Rattle.lfs_host.specs.Scene.{HasRefused, KeepsFiles};
+ghost use Rattle.lfs_host.specs.Scene.{KeepsFiles};
 ghost use Rattle.lfs_salvage.specs.AllMade.{all_lost_made, all_lost_unsaved, all_lost_uses, front_behind_all, lost_made, lost_unsaved, lost_uses};
-ghost use Rattle.lfs_salvage.specs.Below.{IsNameBelow, MakesBelow};
+ghost use Rattle.lfs_salvage.specs.Below.{HasRefusedBelow, IsNameBelow, MakesBelow};
 ghost use Rattle.lfs_salvage.specs.Lost.{front_behind, front_made};
 ghost use Rattle.lfs_salvage.specs.Numbered.{Numbered};
 ghost use Rattle.lfs_salvage.specs.Saving.{Saves};
@@ -29,7 +29,7 @@ fn make_front<F: NewFolder>(
     requires { IsNameBelow dir.now lost.now }
     ensures made { Saves result (F.known folder.old).made (F.known folder.new).made (front_made dir.now lost.now front) }
     ensures below { MakesBelow dir.now (F.known folder.old).made (F.known folder.new).made }
-    ensures blamed { IfErr result (λ fault. fault ≡ CannotWrite → HasRefused (F.known folder.new)) }
+    ensures blamed { IfErr result (λ fault. fault ≡ CannotWrite → HasRefusedBelow (F.known folder.new) dir.now) }
     ensures kept { KeepsFiles (F.known folder.old) (F.known folder.new) }
 {
     match front {
@@ -63,7 +63,7 @@ fn save_lost<B: Blocks, F: NewFolder>(
         ≡ salvage.old.unsaved.items ++ lost_unsaved (B.disk disk.now) number salvage.old.uses.items area.now) }
     ensures front { OnOk result (front.new ≡ front_behind front.old area.now) }
     ensures below { MakesBelow dir.now (F.known folder.old).made (F.known folder.new).made }
-    ensures blamed { IfErr result (λ fault. fault ≡ CannotWrite → HasRefused (F.known folder.new)) }
+    ensures blamed { IfErr result (λ fault. fault ≡ CannotWrite → HasRefusedBelow (F.known folder.new) dir.now) }
     ensures kept { KeepsFiles (F.known folder.old) (F.known folder.new) }
 {
     if !has_start(&area.found) {
@@ -96,7 +96,7 @@ pub(crate) fn save_all_lost<B: Blocks, F: NewFolder>(
         ≡ salvage.old.unsaved.items ++ all_lost_unsaved (B.disk disk.now) first salvage.old.uses.items areas.now) }
     ensures front { OnOk result (front.new ≡ front_behind_all front.old areas.now) }
     ensures below { MakesBelow dir.now (F.known folder.old).made (F.known folder.new).made }
-    ensures blamed { IfErr result (λ fault. fault ≡ CannotWrite → HasRefused (F.known folder.new)) }
+    ensures blamed { IfErr result (λ fault. fault ≡ CannotWrite → HasRefusedBelow (F.known folder.new) dir.now) }
     ensures kept { KeepsFiles (F.known folder.old) (F.known folder.new) }
 {
     'each: for (number, area) in areas.iter().enumerate() {

@@ -1,5 +1,5 @@
 -- The steps of a script, and how they end.
-use Rattle.std.proofs.Common.{◌≡◌, ◌⊎◌, ◌&&◌, ◌<◌, ℕ, Bor, Bool, true, List, [], ◌∷◌, Option}
+use Rattle.std.proofs.Common.{false, ◌≡◌, ◌⊎◌, ◌&&◌, ◌<◌, ℕ, Bor, Bool, true, List, [], ◌∷◌, Option}
 use Rattle.std.proofs.Common.{length, map, refl, sym, ap, subst, ◌∙◌, arith, inl, inr}
 use Rattle.std.specs.Global.{Vec}
 use Rattle.std.specs.List.{AllByRecursion, AllZip}
@@ -73,6 +73,17 @@ pub as_one : (one : Bool) (keep : Option ℕ) (moves : List OnBytes) (asked : Li
 as_one one keep [] asked is some are = absurd (omega (arith, some))
 as_one one keep (move ∷ moves) asked is some are =
     rw (is) (ap (λ (cs : List Asked). change.Together cs keep ∷ []) are)
+
+-- steps that aren't are asked for as they are
+pub as_they_are : (one : Bool) (keep : Option ℕ) (moves : List change.Move) → one ≡ false → moves ≡ as_asked one keep moves
+as_they_are one keep [] is = refl
+as_they_are one keep (move ∷ moves) is = rw is refl
+
+-- so are none
+pub none_asked : (one : Bool) (keep : Option ℕ) (moves : List OnBytes) → length moves ≡ 0
+    → map step_of moves ≡ as_asked one keep (map step_of moves)
+none_asked one keep [] none = refl
+none_asked one keep (move ∷ moves) none = absurd (omega (arith, none))
 
 -- the steps that are taken are those of the lines
 pub takes_lines : (files : Option Files) (lines : List ScriptLine) (read : List (Vec ℕ)) (steps moves : List OnBytes)

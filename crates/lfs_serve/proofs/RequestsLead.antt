@@ -34,12 +34,12 @@ use Rattle.lfs_step.specs.Step.{may_take_older}
 use Rattle.lfs_step.specs.Runs.{GoesOn, HasGoodRows}
 use Rattle.lfs_exchange.specs.declared.step_kind.StepKind.{StepKind}
 use Rattle.lfs_exchange.specs.declared.step_kind.StepKind.TheVariants.{Makes, Asks, Recounts, Changes, Forgets, Adopts}
-use Rattle.lfs_exchange.specs.Handing.{HandedBytes, IsHanded, IsUnwritten, most_image}
+use Rattle.lfs_exchange.specs.Handing.{HandedBytes, IsHanded, IsUnwrittenAt, most_image}
 use Rattle.lfs_exchange.specs.StepKind.{kind_of_query, kind_of_steps}
 use Rattle.lfs_serve.specs.StepKind.{kind_of}
-use Rattle.lfs_exchange.specs.Storing.{HasBoth, LeavesFiles, SparesFiles, journal_name, new_name, new_names}
+use Rattle.lfs_exchange.specs.Storing.{HasBoth, IsDisplaced, LeavesFiles, SparesFiles, journal_name, new_name, new_names}
 use Rattle.lfs_host.specs.Files.{Apart, BeginsWith, Files, FindsFile, ReadsFile, bytes_there}
-use Rattle.lfs_host.specs.Scene.{KeepsScene, Scene, WasRefused, unknown}
+use Rattle.lfs_host.specs.Scene.{KeepsScene, Scene, unknown}
 use Rattle.lfs_request.specs.declared.operation.Operation.{Operation}
 use Rattle.lfs_request.specs.declared.operation.Operation.TheVariants as operation
 use Rattle.lfs_open.specs.HostFolder.{packed_row}
@@ -279,15 +279,15 @@ step_leads laws s manner size name scene behind old new h good for before later 
 -- ---- what a step leaves that wasn't done
 
 -- the status of what the host refuses to write
-host_status : (scene : Scene) (fault : Fault) → IsUnwritten scene fault → status_of (Some fault) ≡ 4
-host_status scene CannotWrite unwritten = refl
-host_status scene (Refused refusal) unwritten = subst (λ (r : Refusal). status_of (Some (Refused r)) ≡ 4) (sym unwritten) refl
-host_status scene _ unwritten = absurd unwritten
+host_status : (scene : Scene) (name : List ℕ) (fault : Fault) → IsUnwrittenAt scene name fault → status_of (Some fault) ≡ 4
+host_status scene name CannotWrite unwritten = refl
+host_status scene name (Refused refusal) unwritten = subst (λ (r : Refusal). status_of (Some (Refused r)) ≡ 4) (sym unwritten) refl
+host_status scene name _ unwritten = absurd unwritten
 
 -- image and journal stay, or the image does, since the host refused a file its place
-spared : (fault : Fault) (kind : StepKind) (placed : Option Bool) (size : ℕ) (name : List ℕ) (old new : Files) (h : History) (outcome : Outcome)
+spared : (fault : Fault) (kind : StepKind) (placed : Scene) (size : ℕ) (name : List ℕ) (old new : Files) (h : History) (outcome : Outcome)
     → FilesDenote size name old h → SparesFiles fault kind placed (Some old) (Some new) name outcome
-    → FilesDenote size name new h ⊎ (WasRefused placed × (new name ≡ old name))
+    → FilesDenote size name new h ⊎ (IsDisplaced placed name × (new name ≡ old name))
 spared (Refused refusal) kind placed size name old new h outcome denotes same = inl (same_files size name old new h same denotes)
 spared _ Asks placed size name old new h outcome denotes same = inl (same_files size name old new h same denotes)
 spared _ Recounts placed size name old new h outcome denotes same = inl (same_files size name old new h same denotes)
@@ -308,7 +308,7 @@ spared _ Changes placed size name old new h outcome denotes (inr (place, torn)) 
 
 -- the host tore image and journal apart
 abbrev IsTornBy : Scene → ℕ → List ℕ → Files → Files → Type 0
-IsTornBy behind status name old new = WasRefused behind.has_refused_place × (status ≡ 4) × (new name ≡ old name)
+IsTornBy behind status name old new = IsDisplaced behind name × (status ≡ 4) × (new name ≡ old name)
 
 -- the files denote the history still, or the host tore them apart
 stop_leaves : (s : Step) (manner : Manner) (size : ℕ) (name : List ℕ) (scene behind : Scene) (fault : Fault) (old new : Files) (h : History)
@@ -319,13 +319,13 @@ stop_leaves s manner size name scene behind fault old new h before later denotes
 stop_leaves s manner size name scene behind fault old new h before later denotes (inr (inl (refused, keeps))) =
     inl (same_files size name old new h (sym later ∙ keeps.0 ∙ before) denotes)
 stop_leaves s manner size name scene behind fault old new h before later denotes (inr (inr (unwritten, (answered, complete, outcome, runs, spares)))) =
-    let placed = behind.has_refused_place in
+    let placed = behind in
     let left : SparesFiles fault (kind_of s) placed (Some old) (Some new) name outcome =
     subst (λ (f : Option Files). SparesFiles fault (kind_of s) placed (Some old) f name outcome) later
     (subst (λ (f : Option Files). SparesFiles fault (kind_of s) placed f behind.files name outcome) before spares) in
     elim (spared fault (kind_of s) placed size name old new h outcome denotes left) [
       | inl kept ↦ inl kept
-      | inr (place, image) ↦ inr (place, host_status behind fault unwritten, image)
+      | inr (place, image) ↦ inr (place, host_status behind unwritten.0 fault unwritten.2, image)
     ]
 
 -- ---- operations

@@ -16,17 +16,18 @@ use Rattle.lfs_request.specs.declared.query.Query.TheVariants.{Check, Ls, Blocks
 use Rattle.lfs_exchange.specs.StepKind.{kind_of_query}
 use Rattle.lfs_exchange.specs.declared.step_kind.StepKind.{StepKind}
 use Rattle.lfs_exchange.specs.declared.step_kind.StepKind.TheVariants.{Makes, Asks, Recounts, Changes, Forgets, Adopts}
-use Rattle.lfs_exchange.specs.Handing.{HandedBytes, HandsImage, HandsJournal, IsClaimed, IsHanded, IsUnwritten, HandsQuestion}
+use Rattle.lfs_exchange.specs.Handing.{HandedBytes, HandsImage, HandsJournal, IsClaimed, IsHanded, HandsQuestion}
 use Rattle.lfs_serve.specs.StepKind.{kind_of}
 use Rattle.lfs_exchange.specs.Storing.{LeavesFiles, SparesFiles}
 use Rattle.lfs_host.specs.Files.{Files, IsTarget}
+use Rattle.lfs_host.specs.HostCall.{Flushing}
 use Rattle.lfs_host.specs.Scene.{HasClaimed, HasRefused, KeepsScene, Scene}
 use Rattle.lfs_open.specs.Blamed.{IsBlamed}
 use Rattle.lfs_open.specs.Later.{refused_by}
 use Rattle.lfs_serve.specs.LaterRead.{later_read}
 use Rattle.lfs_open.specs.ReadBy.{IsReadBy, WantsMemory, IsAskedBy}
 use Rattle.lfs_exchange.specs.Printing.{HandsOn}
-use Rattle.lfs_serve.specs.Program.{EndsStep, RunsStep, StopsStep, TellsVersion, is_answered}
+use Rattle.lfs_serve.specs.Program.{EndsStep, IsUnwritten, RunsStep, StopsStep, TellsVersion, is_answered}
 
 -- ---- the file that a name leads to
 
@@ -41,8 +42,13 @@ leaves_target Makes None new name target o leads leaves = tt
 leaves_target Changes None new name target o leads leaves = tt
 leaves_target Adopts None new name target o leads leaves = tt
 
+-- a name leads to itself where no file is known, or none is a link
+itself : (files : Option Files) (name : List ℕ) → IsTarget files name name
+itself None name = tt
+itself (Some files) name = refl
+
 -- and what is spared of it
-spares_target : (fault : Fault) (kind : StepKind) (placed : Option Bool) (old new : Option Files) (name target : List ℕ) (o : Outcome)
+spares_target : (fault : Fault) (kind : StepKind) (placed : Scene) (old new : Option Files) (name target : List ℕ) (o : Outcome)
     → IsTarget old name target → SparesFiles fault kind placed old new target o → SparesFiles fault kind placed old new name o
 spares_target fault kind placed (Some old) new name target o leads spares =
     subst (λ (at : List ℕ). SparesFiles fault kind placed (Some old) new at o) leads spares
@@ -63,7 +69,7 @@ leaves_at kind other old mid new name target at o left leads at_is mid_is kind_i
     (subst (λ (f : Option Files). LeavesFiles kind f new target o) mid_is
     (subst (λ (a : List ℕ). LeavesFiles kind mid new a o) at_is (subst (LeavesFiles kind mid new at) left_is leaves))))
 
-pub spares_at : (fault : Fault) (kind other : StepKind) (placed : Option Bool) (old mid new : Option Files) (name target at : List ℕ)
+pub spares_at : (fault : Fault) (kind other : StepKind) (placed : Scene) (old mid new : Option Files) (name target at : List ℕ)
     (o left : Outcome) → IsTarget old name target → at ≡ target → mid ≡ old → kind ≡ other → left ≡ o
     → SparesFiles fault kind placed mid new at left → SparesFiles fault other placed old new name o
 spares_at fault kind other placed old mid new name target at o left leads at_is mid_is kind_is left_is spares =
@@ -202,27 +208,27 @@ ends_refused step manner size name old new ended fault outcome is runs same hand
 
 -- what the host refuses behind a run spares the files
 pub ends_behind : (step : Step) (manner : Manner) (size : ℕ) (name : List ℕ) (old new : Scene) (ended : Option Fault) (fault : Fault) (outcome : Outcome)
-    (answered : Option Fault) → is_answered answered ≡ true → ended ≡ Some fault → IsUnwritten new fault
+    (answered : Option Fault) → is_answered answered ≡ true → ended ≡ Some fault → IsUnwritten old new name fault
     → RunsStep step manner size name old new answered outcome
-    → SparesFiles fault (kind_of step) new.has_refused_place old.files new.files name outcome → EndsStep step manner size name old new ended
+    → SparesFiles fault (kind_of step) new old.files new.files name outcome → EndsStep step manner size name old new ended
 ends_behind step manner size name old new ended fault outcome answered complete is unwritten runs spares =
     ends_stopped step manner size name old new ended fault is (inr (inr (unwritten, (answered, complete, outcome, runs, spares))))
 
 -- nor does what kept the answer to a question from being handed on, which two images differ
 pub ends_unhanded : (step : Step) (manner : Manner) (size : ℕ) (name : List ℕ) (old new : Scene) (kind : StepKind) (ended fault : Fault) (outcome : Outcome)
-    → kind ≡ kind_of step → fault ≡ Differ → ended ≡ CannotWrite → HasRefused new → (kind ≡ Asks) ⊎ (kind ≡ Recounts)
+    → kind ≡ kind_of step → fault ≡ Differ → ended ≡ CannotWrite → HasRefused new Flushing → (kind ≡ Asks) ⊎ (kind ≡ Recounts)
     → RunsStep step manner size name old new (Some fault) outcome → new.files ≡ old.files → EndsStep step manner size name old new (Some ended)
 ends_unhanded step manner size name old new kind ended fault outcome kind_is differs is refused asks runs same =
-    let spares : SparesFiles CannotWrite (kind_of step) new.has_refused_place old.files new.files name outcome =
-    spares_asked (kind_of step) new.has_refused_place old.files new.files name outcome (asks_so kind (kind_of step) kind_is asks) same in
+    let spares : SparesFiles CannotWrite (kind_of step) new old.files new.files name outcome =
+    spares_asked (kind_of step) new old.files new.files name outcome (asks_so kind (kind_of step) kind_is asks) same in
     subst (λ (f : Fault). EndsStep step manner size name old new (Some f)) (sym is)
-    (ends_behind step manner size name old new (Some CannotWrite) CannotWrite outcome (Some Differ) refl refl refused
+    (ends_behind step manner size name old new (Some CannotWrite) CannotWrite outcome (Some Differ) refl refl (name, itself old.files name, inl refused)
     (subst (λ (f : Fault). RunsStep step manner size name old new (Some f) outcome) differs runs) spares)
   where
     asks_so : (kind other : StepKind) → kind ≡ other → (kind ≡ Asks) ⊎ (kind ≡ Recounts) → (other ≡ Asks) ⊎ (other ≡ Recounts)
     asks_so kind other same asks = subst (λ (k : StepKind). (k ≡ Asks) ⊎ (k ≡ Recounts)) same asks
 
-    spares_asked : (kind : StepKind) (placed : Option Bool) (old new : Option Files) (name : List ℕ) (o : Outcome)
+    spares_asked : (kind : StepKind) (placed : Scene) (old new : Option Files) (name : List ℕ) (o : Outcome)
         → (kind ≡ Asks) ⊎ (kind ≡ Recounts) → new ≡ old → SparesFiles CannotWrite kind placed old new name o
     spares_asked kind placed old new name o (inl asks) same =
         subst (λ (k : StepKind). SparesFiles CannotWrite k placed old new name o) (sym asks) same
@@ -264,13 +270,13 @@ step_from step manner size name mid old new (Some fault) files printed (inr (inl
     inr (inl (inr wants, (keeps.0 ∙ files, keeps.1 ∙ printed)))
 step_from step manner size name mid old new (Some fault) files printed (inr (inr (unwritten, (answered, complete, outcome, runs, spares)))) =
     inr (inr (
-      unwritten,
+      (unwritten.0, target_from name unwritten.0 mid.files old.files files unwritten.1, unwritten.2),
       (
         answered,
         complete,
         outcome,
         runs_from step manner size name mid old new answered outcome files printed runs,
-        subst (λ (f : Option Files). SparesFiles fault (kind_of step) new.has_refused_place f new.files name outcome) files spares,
+        subst (λ (f : Option Files). SparesFiles fault (kind_of step) new f new.files name outcome) files spares,
       ),
     ))
 

@@ -11,7 +11,8 @@ use Rattle.lfs_request.specs.View.{start_of, complete_view}
 use Rattle.lfs_history.specs.Filling.{bytes_given}
 use Rattle.lfs_history.specs.Meaning.{step_by, step_of}
 use Rattle.lfs_history.specs.Taking as change
-use Rattle.lfs_host.specs.Files.{IsMissing}
+use Rattle.lfs_host.specs.Files.{IsMissing, IsTarget}
+use Rattle.lfs_host.specs.HostCall.{Sparing}
 use Rattle.lfs_host.specs.Scene.{HasRefused, KeepsScene, Scene}
 use Rattle.lfs_pack.specs.declared.pack_row.PackRow.{PackRow}
 use Rattle.lfs_request.specs.declared.request.Request.{Request}
@@ -25,7 +26,7 @@ use Rattle.lfs_step.specs.Outcome.{Answers, SendsText, given}
 use Rattle.lfs_step.specs.Step.{may_take_older}
 use Rattle.lfs_exchange.specs.declared.step_kind.StepKind.{StepKind}
 use Rattle.lfs_exchange.specs.declared.step_kind.StepKind.TheVariants.{Makes, Changes, Forgets, Adopts}
-use Rattle.lfs_exchange.specs.Handing.{HandedBytes, HandsInput, HandsQuestion, IsHanded, IsNotTakenUp, IsOtherUnread, IsUnread, IsUnwritten, reads_input}
+use Rattle.lfs_exchange.specs.Handing.{HandedBytes, HandsInput, HandsQuestion, IsHanded, IsNotTakenUp, IsQueryUnread, IsUnreadBy, IsUnwrittenAt, input_call, reads_input}
 use Rattle.lfs_exchange.specs.Printing.{HandsOn}
 use Rattle.lfs_exchange.specs.StepKind.{kind_of_query, kind_of_steps}
 use Rattle.lfs_serve.specs.StepKind.{kind_of}
@@ -73,6 +74,10 @@ is_answered None = true
 is_answered (Some Differ) = true
 is_answered (Some fault) = false
 
+-- the host has refused to write what a step leaves of the file that a name leads to, or memory was refused
+abbrev pub IsUnwritten : Scene → Scene → List ℕ → Fault → Type 0
+IsUnwritten old new name fault = (at : List ℕ) × IsTarget old.files name at × IsUnwrittenAt new at fault
+
 -- why a step wasn't done: `run` refused it, or said of two images that they differ, or which files in their entries are longer than is
 -- asked, which is handed on; a commit of a later version was refused, or memory was wanting to read the image; or the host refused
 -- something behind that
@@ -81,9 +86,9 @@ StopsStep step manner size name old new fault =
     ((outcome : Outcome) × RunsStep step manner size name old new (Some fault) outcome × (new.files ≡ old.files)
     × (fault ≡ Differ → HandsOn (kind_of step) new))
     ⊎ ((IsLater step manner size name old fault ⊎ WantsMemory manner.view fault) × KeepsScene old new)
-    ⊎ (IsUnwritten new fault × ((answered : Option Fault) × (is_answered answered ≡ true) × (outcome : Outcome)
+    ⊎ (IsUnwritten old new name fault × ((answered : Option Fault) × (is_answered answered ≡ true) × (outcome : Outcome)
     × RunsStep step manner size name old new answered outcome
-    × SparesFiles fault (kind_of step) new.has_refused_place old.files new.files name outcome))
+    × SparesFiles fault (kind_of step) new old.files new.files name outcome))
 
 -- how a step on an image's file ends: done, the files have the bytes of the outcome, and an answer is handed on; or with a fault
 abbrev pub EndsStep : Step → Manner → ℕ → List ℕ → Scene → Scene → Option Fault → Type 0
@@ -140,9 +145,9 @@ abbrev pub IsNotRead : Operation → Scene → Scene → Fault → Type 0
 IsNotRead (Pack extent limits dir most) old new why = ReadsNoFolder old.tree dir.now new why
 IsNotRead (Tree change keep) old new why = IsNotReadFor change old new why
 IsNotRead (Batch file terms one) old new why = BecomesNoBatch file one old new why
-IsNotRead (Change move) old new why = IsUnread new why
+IsNotRead (Change move) old new why = IsUnreadBy (input_call move) new why
 IsNotRead (Repack source extent said most) old new why = RefusesSource source old new why
-IsNotRead (Ask query form view) old new why = IsOtherUnread new why
+IsNotRead (Ask query form view) old new why = IsQueryUnread query new why
 IsNotRead _ old new why = ⊥
 
 -- why no step of an operation is run: what is read for it isn't, or its image's files aren't taken up
@@ -189,7 +194,7 @@ IsSpared request scene = request.is_new ≡ true → IsMissing scene.files reque
 
 -- it is taken, and nothing is changed
 abbrev pub IsNotSpared : Request → Scene → Scene → Option Fault → Type 0
-IsNotSpared request old new fault = (request.is_new ≡ true) × (fault ≡ Some CannotWrite) × HasRefused new × KeepsScene old new
+IsNotSpared request old new fault = (request.is_new ≡ true) × (fault ≡ Some CannotWrite) × HasRefused new (Sparing request.image.now) × KeepsScene old new
 
 -- how a request ends, and with which status: as its operation, over older states where they are asked for, or since the name of an image that
 -- is to be new is taken

@@ -3,10 +3,10 @@ use Rattle.std.specs.Prelude.{◌≡◌, ◌⊎◌, ℕ, List, [], ◌∷◌, Op
 use Rattle.lfs_request.specs.declared.fault.Fault.{Fault}
 use Rattle.lfs_change.specs.Change.{Denotes}
 use Rattle.lfs_request.specs.Fault.{status_of}
-use Rattle.lfs_exchange.specs.Storing.{journal_name}
+use Rattle.lfs_exchange.specs.Storing.{IsDisplaced, journal_name}
 use Rattle.lfs_history.specs.History.{History}
 use Rattle.lfs_host.specs.Files.{Files, bytes_there}
-use Rattle.lfs_host.specs.Scene.{Scene, WasRefused}
+use Rattle.lfs_host.specs.Scene.{Scene}
 use Rattle.lfs_request.specs.declared.request.Request.{Request}
 use Rattle.lfs_request.specs.declared.operation.Operation.{Operation}
 use Rattle.lfs_request.specs.declared.operation.Operation.TheVariants.{Extract, Salvage}
@@ -64,7 +64,7 @@ RequestGoes size s old new =
 -- blocks of its size, nobody is told: that journal is without changes, and counts as one of an image that nothing was done to.
 pub record IsTorn (name : List ℕ) (s : Served) (old new : Files) : Type 0 where
   pub status : s.status ≡ 4
-  pub place : WasRefused s.new.has_refused_place
+  pub place : IsDisplaced s.new name
   pub image : new name ≡ old name
 
 -- From a history that the files denote each request leads to one that the files denote which it leaves, up to the last, or up to

@@ -1,7 +1,7 @@
 -- What is read for changes of whole trees (own).
 use Rattle.std.specs.Borrow.{Bor}
 use Rattle.std.specs.Prelude.{◌≡◌, ⊤, ℕ, Bool, false, List, Option, IfSome, map}
-use Rattle.lfs_exchange.specs.Handing.{HandsSource, IsUnread, is_input}
+use Rattle.lfs_exchange.specs.Handing.{HandsSource, IsUnreadBy, is_input, source_call}
 use Rattle.lfs_extract.specs.FolderRows.{AreAllBelow, AreFolderRows, PathRow}
 use Rattle.lfs_fs.specs.Limits.{most_file}
 use Rattle.lfs_history.specs.Filling.{bytes_given}
@@ -44,7 +44,7 @@ IsReadFirst _ s = ⊤
 
 -- why what is read for a change isn't
 abbrev pub IsNotReadFor : Asking → Scene → Scene → Fault → Type 0
-IsNotReadFor (Put path source most) old new why = IsUnread new why
+IsNotReadFor (Put path source most) old new why = IsUnreadBy (source_call source) new why
 IsNotReadFor (Sync path dir most) old new why = ReadsNoFolder old.tree dir.now new why
 IsNotReadFor _ old new why = ⊥
 

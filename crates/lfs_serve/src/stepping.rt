@@ -6,6 +6,7 @@ ghost use Rattle.lfs_serve.specs.StepKind.{kind_of};
 ghost use Rattle.lfs_host.specs.Files.{IsTarget};
 ghost use Rattle.lfs_exchange.specs.Printing.{HandsOn};
 ghost use Rattle.lfs_exchange.specs.declared.step_kind.StepKind.TheVariants.{Asks, Recounts};
+ghost use Rattle.lfs_host.specs.HostCall.{Flushing};
 ghost use Rattle.lfs_host.specs.Scene.{HasRefused, KeepsAll, KeepsInput};
 ghost use Rattle.lfs_request.specs.declared.fault.Fault.TheVariants.{CannotWrite, Differ};
 ghost use Rattle.lfs_report.specs.Stop.{stopped_by};
@@ -117,7 +118,7 @@ pub(crate) fn stepped_in<H: Host>(
 /// Hands on the answer to a question; of other steps nothing is answered.
 fn handed_on<H: Host>(host: &mut H, kind: StepKind) -> Result<(), Fault>
     ensures flushed { OnOk result (HandsOn kind (H.known host.new)) }
-    ensures refused { IfErr result (λ fault. (fault ≡ CannotWrite) × HasRefused (H.known host.new) × ((kind ≡ Asks) ⊎ (kind ≡ Recounts))) }
+    ensures refused { IfErr result (λ fault. (fault ≡ CannotWrite) × HasRefused (H.known host.new) Flushing × ((kind ≡ Asks) ⊎ (kind ≡ Recounts))) }
     ensures kept { KeepsAll (H.known host.old) (H.known host.new) }
 {
     match kind {
@@ -136,7 +137,7 @@ fn stopped<H: Host>(
     stop: Stop,
 ) -> Stop
     ensures ended { ((result.fault ≡ stop.fault) × (stop.fault ≡ Differ → HandsOn kind (H.known host.new)))
-        ⊎ ((stop.fault ≡ Differ) × (result.fault ≡ CannotWrite) × HasRefused (H.known host.new) × ((kind ≡ Asks) ⊎ (kind ≡ Recounts))) }
+        ⊎ ((stop.fault ≡ Differ) × (result.fault ≡ CannotWrite) × HasRefused (H.known host.new) Flushing × ((kind ≡ Asks) ⊎ (kind ≡ Recounts))) }
     ensures blamed { IsBlamed (Some stop.fault) (H.known host.old) → IsBlamed (Some stop.fault) (H.known host.new) }
     ensures kept { KeepsAll (H.known host.old) (H.known host.new) }
 {

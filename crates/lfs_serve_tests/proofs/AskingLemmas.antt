@@ -23,7 +23,7 @@ use Rattle.lfs_host.specs.Scene.{Scene}
 use Rattle.lfs_serve.specs.Program.{EndsRequest, EndsStep, EndsOperation, manner_of}
 
 -- where the host refused something behind what asks, all files stay
-all_spared : (fault : Fault) (kind : StepKind) (placed : Option Bool) (old new : Option Files) (name : List ℕ) (o : Outcome) → (kind ≡ Asks) ⊎ (kind ≡ Recounts)
+all_spared : (fault : Fault) (kind : StepKind) (placed : Scene) (old new : Option Files) (name : List ℕ) (o : Outcome) → (kind ≡ Asks) ⊎ (kind ≡ Recounts)
     → SparesFiles fault kind placed old new name o → new ≡ old
 all_spared (Refused refusal) kind placed old new name o asks same = same
 all_spared fault kind placed old new name o (inl asks) spares =
@@ -60,7 +60,7 @@ step_keeps None step manner size name old new asks (o, runs, leaves, flushed) = 
 step_keeps (Some fault) step manner size name old new asks (inl (o, runs, same, handed)) = same
 step_keeps (Some fault) step manner size name old new asks (inr (inl (why, keeps))) = keeps.0
 step_keeps (Some fault) step manner size name old new asks (inr (inr (unwritten, (answered, complete, o, runs, spares)))) =
-    all_spared fault (kind_of step) new.has_refused_place old.files new.files name o asks spares
+    all_spared fault (kind_of step) new old.files new.files name o asks spares
 
 operation_keeps : (fault : Option Fault) (t : Operation) (older : Bool) (size : ℕ) (name : List ℕ) (old new : Scene) → OnlyAsks t
     → EndsOperation t older size name old new fault → new.files ≡ old.files

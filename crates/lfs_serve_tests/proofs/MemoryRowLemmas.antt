@@ -1,5 +1,5 @@
 -- What is below a folder of a host in memory.
-use Rattle.std.proofs.Common.{◌≡◌, ◌≢◌, ℕ, true, false, List, [], ◌∷◌, ◌++◌, Option, Some, None, refl, sym, subst, inl, inr, append_assoc, map, take, string_bytes}
+use Rattle.std.proofs.Common.{◌≡◌, ◌≢◌, ◌⊎◌, ℕ, true, false, List, [], ◌∷◌, ◌++◌, Option, Some, None, refl, sym, subst, inl, inr, append_assoc, map, take, string_bytes}
 use Rattle.std.specs.Prelude.{flat_map, IfErr, Result, Ok, Err}
 use Rattle.std.proofs.lemmas.List.{append-nil}
 use Rattle.lfs_fs.specs.Path.{Path}
@@ -10,7 +10,7 @@ use Rattle.lfs_extract.specs.declared.folder_fault.FolderFault.TheVariants.{Memo
 use Rattle.lfs_host.specs.HostTree.{HostTree, NothingThere, OtherThere}
 use Rattle.lfs_host.specs.MadeEntry.{made_as}
 use Rattle.lfs_host.specs.MemoryFiles.{files_of}
-use Rattle.lfs_host.specs.Scene.{HasRefused, Scene}
+use Rattle.lfs_host.specs.Scene.{HasRefusedEntry, Scene}
 use Rattle.lfs_host.specs.declared.memory_host.MemoryHost.{MemoryHost}
 use Rattle.lfs_host.specs.MemoryTree.{HasNoGap, host_node_of, tree_of}
 use Rattle.lfs_serve_tests.specs.MemoryRows.{RefusesInMemory}
@@ -24,12 +24,10 @@ scene_of host = record {
   flushed = Some (take host.flushed host.printed.items);
   tree = Some (tree_of host.files);
   made = Some (map made_as host.made.items);
-  filled = Some host.filled.items;
   claimed = Some (map string_bytes host.claimed.items);
   has_withheld = Some false;
-  has_refused = Some host.has_refused;
-  has_refused_file = Some (λ _. host.has_refused);
-  has_refused_place = Some host.has_refused_place;
+  has_read_unclaimed = Some false;
+  refused = Some (λ _. host.has_refused);
 }
 
 -- a file or a folder isn't something else
@@ -48,12 +46,18 @@ below_is_there tree complete name (n ∷ (m ∷ path)) other (names, folder, the
     subst (λ (x : List ℕ). tree x ≢ NothingThere) (append_assoc name (47 ∷ n) (flat_map (λ n. 47 ∷ n) (m ∷ path)))
     (below_is_there tree complete (name_in name n) (m ∷ path) (λ none. cc) rest)
 
+-- a call that reads what is under a name was refused, which is noted alike of all calls
+pub entry_noted : {A : Type 0} → A ⊎ A ⊎ A → A
+entry_noted (inl a) = a
+entry_noted (inr (inl a)) = a
+entry_noted (inr (inr a)) = a
+
 -- why a folder of a host in memory isn't read
 refuses_by : (tree : HostTree) (dir : List ℕ) (scene : Scene) (new : MemoryHost) (fault : FolderFault) → HasNoGap tree
-    → ((name : List ℕ) → tree name ≢ OtherThere) → (HasRefused scene → new.has_refused ≡ true) → RefusesHostTree tree dir fault
+    → ((name : List ℕ) → tree name ≢ OtherThere) → ((name : List ℕ) → HasRefusedEntry scene name → new.has_refused ≡ true) → RefusesHostTree tree dir fault
     → BlamesHost (Some tree) dir scene fault → RefusesInMemory tree dir new fault
 refuses_by tree dir scene new HostEntry complete known noted (path, below, other, there) blamed = absurd (known (host_name dir path) there)
-refuses_by tree dir scene new CannotRead complete known noted why (inl refused) = inl (noted refused)
+refuses_by tree dir scene new CannotRead complete known noted why (inl (path, below, refused)) = inl (noted (host_name dir path) refused)
 refuses_by tree dir scene new CannotRead complete known noted why (inr (inl (path, below, other, gap))) =
     absurd (below_is_there tree complete dir path other below gap)
 refuses_by tree dir scene new CannotRead complete known noted why (inr (inr many)) = inr many
@@ -61,7 +65,7 @@ refuses_by tree dir scene new HostName complete known noted why blamed = tt
 refuses_by tree dir scene new Memory complete known noted why blamed = tt
 
 pub refuses_in_memory : {T : Type 0} (tree : HostTree) (dir : List ℕ) (scene : Scene) (new : MemoryHost) (rows : Result T FolderFault) → HasNoGap tree
-    → ((name : List ℕ) → tree name ≢ OtherThere) → (HasRefused scene → new.has_refused ≡ true) → IfErr rows (λ fault. RefusesHostTree tree dir fault)
+    → ((name : List ℕ) → tree name ≢ OtherThere) → ((name : List ℕ) → HasRefusedEntry scene name → new.has_refused ≡ true) → IfErr rows (λ fault. RefusesHostTree tree dir fault)
     → IfErr rows (λ fault. BlamesHost (Some tree) dir scene fault) → IfErr rows (λ fault. RefusesInMemory tree dir new fault)
 refuses_in_memory tree dir scene new (Ok rows) complete known noted why blamed = tt
 refuses_in_memory tree dir scene new (Err fault) complete known noted why blamed = refuses_by tree dir scene new fault complete known noted why blamed

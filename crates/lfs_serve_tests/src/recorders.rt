@@ -25,25 +25,7 @@ struct Recorder {
     room: usize,
 }
 
-impl Known for Recorder {
-    ghost use Rattle.std.specs.Prelude.{None, Some, if◌then◌else◌, map, string_bytes};
-    ghost use Rattle.lfs_host.specs.NewFolder.{FileMade, FolderMade};
-
-    ghost known = { λ r. record {
-      files = None;
-      typed = None;
-      printed = None;
-      flushed = None;
-      tree = None;
-      made = Some (map (λ t. if t.is_folder then FolderMade (string_bytes t.name) else FileMade (string_bytes t.name) t.bytes.items) r.things.items);
-      filled = Some r.bytes.items;
-      claimed = None;
-      has_withheld = None;
-      has_refused = None;
-      has_refused_file = None;
-      has_refused_place = None;
-    } };
-}
+impl Known for Recorder {}
 
 impl NewFolder for Recorder {
     fn make_folder(&mut self, name: &str) -> Result<(), HostFault> {

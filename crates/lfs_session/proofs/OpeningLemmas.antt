@@ -1,5 +1,5 @@
 -- How a journal is opened on an image, change by change.
-use Rattle.std.proofs.Common.{◌≡◌, ◌↔◌, ℕ, ◌≤◌, Bool, true, false, List, [], ◌∷◌, ◌++◌, Result, Err, length, take, drop, refl, ap, sym, ◌∙◌, subst, arith}
+use Rattle.std.proofs.Common.{◌≡◌, ◌≢◌, ◌↔◌, ℕ, ◌≤◌, Bool, true, false, List, [], ◌∷◌, ◌++◌, Result, Err, length, take, drop, refl, ap, sym, ◌∙◌, subst, arith}
 use Rattle.std.specs.Prelude.{reverse, Contains, IfErr, IsTrue}
 use Rattle.std.specs.List.{AllByRecursion}
 use Rattle.std.proofs.lemmas.Bool.{false≢true}
@@ -8,6 +8,7 @@ use Rattle.std.proofs.lemmas.List.Elements.{Contains-append_left, Contains-appen
 use Rattle.lfs_block.specs.Disk.{Disk, IsDisk}
 use Rattle.lfs_block.specs.Medium.{Medium}
 use Rattle.lfs_block.specs.Patch.{ChangeSet, IsGrowth, AgreesNew, AgreesOld, applied, reverted}
+use Rattle.lfs_block.specs.declared.mount_fault.MountFault.{MountFault}
 use Rattle.lfs_fs.specs.Volume.{Volume}
 use Rattle.lfs_fs.specs.Cause.{HasCause}
 use Rattle.lfs_fs.specs.Mounted.{IsMountOf, IsOutlineOf, MountedValue}
@@ -240,6 +241,14 @@ parts_opened m bytes outline ps done is room = record {
 pub refused_as : {T : Type 0} (r : Result T OpenFault) (Q : OpenFault → Type 0) (known made : OpenFault) → r ≡ Err made → made ≡ known → Q known
     → IfErr r Q
 refused_as {T} r Q known made is same holds = subst (λ (s : Result T OpenFault). IfErr s Q) (sym is) (subst Q (sym same) holds)
+
+-- neither an image that doesn't mount nor bytes that are no journal are told as another image
+pub mount_is_other : (fault : MountFault) → Mount fault ≢ JournalImage
+mount_is_other fault is = cc
+
+pub journal_is_other : (fault : JournalFault) → opened_fault fault ≢ JournalImage
+journal_is_other Unspelled is = cc
+journal_is_other Unread is = cc
 
 -- an image that was mounted mounts
 pub mount_mounts : (d : Disk) (m : MountedValue) → IsMountOf d m → IsMounted d

@@ -1,12 +1,12 @@
 //! What is opened of a journal on an image.
 
-ghost use Rattle.std.specs.Prelude.{◌≡◌, ◌≤◌, ◌↔◌, ◌++◌, IsTrue, IfOk, IfErr, length, take, drop, reverse};
+ghost use Rattle.std.specs.Prelude.{◌≡◌, ◌≢◌, ◌≤◌, ◌↔◌, ◌++◌, IsTrue, IfOk, IfErr, length, take, drop, reverse};
 ghost use Rattle.std.specs.List.{AllByRecursion};
 ghost use Rattle.lfs_block.specs.Disk.{IsDisk, erased_block};
 ghost use Rattle.lfs_block.specs.Patch.{IsGrowth};
 ghost use Rattle.lfs_block.specs.declared.mount_fault.MountFault.TheVariants.{Memory};
 ghost use Rattle.lfs_fs.specs.Mounted.{IsOutlineOf};
-ghost use Rattle.lfs_history.specs.declared.open_fault.OpenFault.TheVariants.{Mount};
+ghost use Rattle.lfs_history.specs.declared.open_fault.OpenFault.TheVariants.{JournalImage, Mount};
 ghost use Rattle.lfs_history.specs.History.{GoesBack, GoesForward, IsMounted, past_of, future_of};
 ghost use Rattle.lfs_history.specs.Opening.{RefusesOpening};
 ghost use Rattle.lfs_session.specs.Known.{HasRoom};
@@ -91,14 +91,15 @@ fn others_mount(
 }
 
 /// The changes that the bytes of a journal denote on an image, which stands again as it was, with room for each image of the
-/// history; whether the others mount isn't asked. A refusal says the first of these that holds: the image has a cause for which
-/// it does not mount; `JournalFormat` where no journal is spelled so; `JournalMismatch` where it denotes no history of the image.
-/// Want of memory is told as the mount's.
+/// history; whether the others mount isn't asked, so that `JournalImage` never comes. A refusal says the first of these that holds:
+/// the image has a cause for which it does not mount; `JournalFormat` where no journal is spelled so; `JournalMismatch` where it
+/// denotes no history of the image. Want of memory is told as the mount's.
 pub fn read_changes(alloc: Global, image: &mut Image, journal: &[u8]) -> Result<Changes, OpenFault>
     ensures read { IfOk result (λ changes. DenotesChanges image.old.disk journal.now changes.patches.items changes.done) }
     ensures outline { IfOk result (λ changes. IsOutlineOf image.old.disk changes.outline) }
     ensures room { IfOk result (λ changes. HasRoom image.new.room changes.patches.items) }
     ensures refused { IfErr result (λ fault. RefusesOpening fault image.old.disk journal.now) }
+    ensures unasked { IfErr result (λ fault. fault ≢ JournalImage) }
     ensures disk { image.new.disk ≡ image.old.disk }
 {
     let outline = mount(alloc, image)?.into_outline();

@@ -131,7 +131,8 @@ impl Session {
         &self.image
     }
 
-    /// The outline of the image as it is now, where it is known: behind a mount or a command, where memory wasn't wanting.
+    /// The outline of the image as it is now, if it is known: after a mount or a command for which no memory was refused. A clause says of
+    /// which image it is. None says when it is known, since any growth of memory may be refused.
     pub fn outline(&self) -> Option<&Outline>
         ensures { IfSome result (λ outline. IsOutlineOf self.now.present outline.now) }
     {

@@ -11,3 +11,5 @@ pub mod AllPlacesLemmas
 pub mod LostLemmas
 pub mod PairKeyLemmas
 pub mod SharedLemmas
+pub mod OwnedLemmas
+pub mod CopiedLemmas

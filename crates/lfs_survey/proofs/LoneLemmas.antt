@@ -17,7 +17,7 @@ use Rattle.lfs_meta.specs.Laws.{UnreadPairsHoldNoPart}
 use Rattle.lfs_meta.specs.LiveBlock.{stored_part_of}
 use Rattle.lfs_meta.specs.Part.{StoredPart}
 use Rattle.lfs_survey.specs.Looking.{Grows, is_open}
-use Rattle.lfs_survey.specs.Lone.{NoneIsLeft, alone, body_pairs, entries_pairs, is_lone, lone_pairs, marked_by, pairs_named}
+use Rattle.lfs_survey.specs.Lone.{NoneIsLeft, alone, body_pairs, entries_pairs, is_lone, lone_pairs, marked_by, marked_of, marked_of_all}
 
 -- ---- one pair
 
@@ -32,6 +32,12 @@ unread_none d pair fault none other cause = none fault d pair cause
 pub marked_append : (table : List Bool) (xs ys : List Pair) → marked_by table (xs ++ ys) ≡ marked_by (marked_by table xs) ys
 marked_append table [] ys = refl
 marked_append table (p ∷ xs) ys = marked_append (slice_set (slice_set table p.0 true) p.1 true) xs ys
+
+-- the pairs of several lists, one after another
+of_all_append : (d : Disk) (table : List Bool) (xs ys : List Pair)
+    → marked_of_all d table (xs ++ ys) ≡ marked_of_all d (marked_of_all d table xs) ys
+of_all_append d table [] ys = refl
+of_all_append d table (p ∷ xs) ys = of_all_append d (marked_of d table p) xs ys
 
 -- those of one entry more
 pub entries_marked : (old now new : List Bool) (i : ℕ) (es : List StoredEntry) (e : StoredEntry) → i < length es → e ≡ get_or es i e
@@ -55,17 +61,17 @@ lone_more d looked n = filter_of_map_range_with_len_more (is_lone d looked) alon
 -- the pairs so far, with the blocks that their parts name
 pub record IsFinding (d : Disk) (looked before now : List Bool) (pairs : List Pair) (n : ℕ) : Type 0 where
   pub pairs_are : pairs ≡ lone_pairs d looked n
-  pub named : now ≡ marked_by before (pairs_named d pairs)
+  pub named : now ≡ marked_of_all d before pairs
 
 pub finding_more : (d : Disk) (looked before now next : List Bool) (pairs new : List Pair) (n : ℕ) → IsFinding d looked before now pairs n
     → new ≡ pairs ++ cond (is_lone d looked (alone n)) (alone n ∷ []) []
-    → next ≡ marked_by now (pairs_named d (cond (is_lone d looked (alone n)) (alone n ∷ []) [])) → IsFinding d looked before next new (n + 1)
+    → next ≡ marked_of_all d now (cond (is_lone d looked (alone n)) (alone n ∷ []) []) → IsFinding d looked before next new (n + 1)
 finding_more d looked before now next pairs new n h push mark =
     let one = cond (is_lone d looked (alone n)) (alone n ∷ []) [] in
     record {
       pairs_are = push ∙ ap (λ (ps : List Pair). ps ++ one) h.pairs_are ∙ sym (lone_more d looked n);
-      named = mark ∙ ap (λ (t : List Bool). marked_by t (pairs_named d one)) h.named ∙ sym (marked_append before (pairs_named d pairs) (pairs_named d one))
-          ∙ ap (marked_by before) (sym (ap (pairs_named d) push ∙ flat_map-append _ pairs one));
+      named = mark ∙ ap (λ (t : List Bool). marked_of_all d t one) h.named ∙ sym (of_all_append d before pairs one)
+          ∙ ap (marked_of_all d before) (sym push);
     }
 
 -- ---- no block is left

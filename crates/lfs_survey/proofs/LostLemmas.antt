@@ -15,6 +15,7 @@ use Rattle.lfs_survey.specs.declared.call.Call.{Call}
 use Rattle.lfs_survey.specs.declared.found.Found.{Found}
 use Rattle.lfs_survey.proofs.AreaLemmas.{after_grows}
 use Rattle.lfs_survey.proofs.LookingLemmas.{behind_shut, grows_shut}
+use Rattle.lfs_survey.proofs.SurveyLemmas.{first_is_open}
 
 -- a pair that was looked at isn't open behind
 called_shut : (looked : List Bool) (cs : List Call) (fs : List Found) (c : Call) → length fs ≡ length cs → Contains cs c
@@ -39,12 +40,12 @@ second_apart : (d : Disk) (looked : List Bool) (starts : List Pair) (a b : Area)
     → IsArea d looked root a → BeginIn d (behind_area looked a) starts later → slice_get later 0 ≡ Some b → slice_get b.calls.items 0 ≡ Some c
     → IsCalled a c.pair → ⊥
 second_apart d looked starts a b [] c root first others at is called = absurd (none-some b at)
-second_apart d looked starts a b (x ∷ later) c root first (start, has, area, rest, free) at is (e, there, same) =
+second_apart d looked starts a b (x ∷ later) c root first (start, begins, area, rest) at is (e, there, same) =
     let here : x ≡ b = same_Some x b at in
     let pair : start ≡ c.pair =
     begins_with start c x.calls.items _ area.called (ap (λ (y : Area). slice_get y.calls.items 0) here ∙ is) in
     let shut : is_open (behind_area looked a) e.pair ≡ false = called_shut looked a.calls.items a.found.items e first.all there in
-    not_both (is_open (behind_area looked a) start) free
+    not_both (is_open (behind_area looked a) start) (first_is_open (behind_area looked a) start starts begins)
     (subst (λ (p : Pair). is_open (behind_area looked a) p ≡ false) (same ∙ sym pair) shut)
 
 -- the law

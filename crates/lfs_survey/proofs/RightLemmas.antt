@@ -1,5 +1,5 @@
 -- What is found at each place of a survey is right.
-use Rattle.std.proofs.Common.{◌≡◌, ℕ, Bool, List, [], ◌∷◌, take, Some, None, zero, suc, refl, ap, sym, ◌∙◌, subst}
+use Rattle.std.proofs.Common.{◌≡◌, ℕ, Bool, List, [], ◌∷◌, ◌++◌, take, Some, None, zero, suc, refl, ap, sym, ◌∙◌, subst}
 use Rattle.std.specs.Prelude.{slice_get}
 use Rattle.lfs_block.specs.Disk.{Disk}
 use Rattle.lfs_meta.specs.Body.{Pair}
@@ -7,7 +7,7 @@ use Rattle.lfs_fs.specs.Pair.{root}
 use Rattle.lfs_survey.specs.Area.{AreFound, IsArea, looked_after}
 use Rattle.lfs_survey.specs.Looking.{IsFound, looked_behind}
 use Rattle.lfs_survey.specs.Place.{SurveysAreRight}
-use Rattle.lfs_survey.specs.Survey.{BeginIn, behind_area, behind_areas, unlooked}
+use Rattle.lfs_survey.specs.Survey.{BeginIn, area_tails, behind_area, behind_areas, unlooked}
 use Rattle.lfs_survey.specs.declared.area.Area.{Area}
 use Rattle.lfs_survey.specs.declared.call.Call.{Call}
 use Rattle.lfs_survey.specs.declared.found.Found.{Found}
@@ -30,9 +30,10 @@ found_there d looked (x ∷ cs) (y ∷ fs) (suc n) f right is = found_there d (l
 area_there : (d : Disk) (looked : List Bool) (starts : List Pair) (areas : List Area) (i : ℕ) (a : Area) → BeginIn d looked starts areas
     → slice_get areas i ≡ Some a → (start : Pair) × IsArea d (behind_areas looked (take i areas)) start a
 area_there d looked starts [] i a h is = absurd (no_some a is)
-area_there d looked starts (x ∷ areas) zero a (start, has, area, rest, free) is =
+area_there d looked starts (x ∷ areas) zero a (start, at, area, rest) is =
     (start, subst (λ (y : Area). IsArea d looked start y) (same_some x a is) area)
-area_there d looked starts (x ∷ areas) (suc i) a (start, has, area, rest, free) is = area_there d (behind_area looked x) starts areas i a rest is
+area_there d looked starts (x ∷ areas) (suc i) a (start, at, area, rest) is =
+    area_there d (behind_area looked x) (starts ++ area_tails x) areas i a rest is
 
 any_area : (d : Disk) (starts : List Pair) (first : Area) (later : List Area) (i : ℕ) (a : Area) → IsArea d (unlooked d) root first
     → BeginIn d (behind_area (unlooked d) first) starts later → slice_get (first ∷ later) i ≡ Some a

@@ -12,3 +12,5 @@ pub mod Lost
 pub mod PairKeys
 pub mod Shared
 pub mod Damaged
+pub mod Told
+pub mod Owned

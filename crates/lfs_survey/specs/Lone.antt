@@ -40,7 +40,7 @@ tail_pairs (Hard first second) = (first, second) ∷ []
 abbrev pub entries_pairs : List StoredEntry → List Pair
 entries_pairs es = flat_map (λ e. body_pairs e.body) es
 
--- the pairs that a part pairs_named, by its entries and its tail
+-- the pairs that a part names, by its entries and its tail
 abbrev pub part_pairs : StoredPart → List Pair
 part_pairs p = entries_pairs p.entries ++ tail_pairs p.tail
 
@@ -49,36 +49,41 @@ abbrev pub held_pairs : Option StoredPart → List Pair
 held_pairs None = []
 held_pairs (Some p) = part_pairs p
 
--- the pairs that what is held at these pairs pairs_named
-abbrev pub pairs_named : Disk → List Pair → List Pair
-pairs_named d ps = flat_map (λ p. held_pairs (stored_part_of d p)) ps
-
 -- a table in which the blocks of pairs are marked
 abbrev pub marked_by : List Bool → List Pair → List Bool
 marked_by table [] = table
 marked_by table (p ∷ ps) = marked_by (slice_set (slice_set table p.0 true) p.1 true) ps
 
+-- the blocks that what a pair holds names are marked, but for its own
+abbrev pub marked_of : Disk → List Bool → Pair → List Bool
+marked_of d table p = slice_set (marked_by table (held_pairs (stored_part_of d p))) p.0 (slice_index_or table p.0 true)
+
+-- the same of several pairs
+abbrev pub marked_of_all : Disk → List Bool → List Pair → List Bool
+marked_of_all d table [] = table
+marked_of_all d table (p ∷ ps) = marked_of_all d (marked_of d table p) ps
+
 -- the pairs whose first block isn't marked
 abbrev pub unmarked_pairs : List Bool → List Pair → List Pair
 unmarked_pairs table ps = filter (λ p. not (slice_index_or table p.0 true)) ps
 
--- the blocks by themselves that none of them pairs_named
+-- the blocks by themselves that no other one names
 abbrev pub unnamed_pairs : Disk → List Bool → List Pair
-unnamed_pairs d looked =
-    unmarked_pairs (marked_by (unlooked d) (pairs_named d (lone_pairs d looked d.count))) (lone_pairs d looked d.count)
+unnamed_pairs d looked = unmarked_pairs (marked_of_all d (unlooked d) (lone_pairs d looked d.count)) (lone_pairs d looked d.count)
 
 -- a pair holds this part, or none
 abbrev pub HoldsAs : Disk → Pair → Option (Pair × StoredPart) → Type 0
 HoldsAs d pair None = stored_part_of d pair ≡ None
 HoldsAs d pair (Some p) = stored_part_of d pair ≡ Some p.1
 
--- Areas that begin at these pairs, and where the thread goes on behind a part of one of them; none of these is left open.
+-- Areas, each of which begins at the first open pair of these and, after them, of those to which the thread goes on after the areas before
+-- it; none of these is left open.
 pub record AreAlong (d : Disk) (before after : List Bool) (starts : List Pair) (areas : List Area) : Type 0 where
-  pub begin : BeginIn d before (starts ++ tails_behind areas) areas
+  pub begin : BeginIn d before starts areas
   pub looked : after ≡ behind_areas before areas
   pub closed : All (λ p. is_open after p ≡ false) (starts ++ tails_behind areas)
 
--- Areas of blocks by themselves: first from those on that none of them pairs_named, since they lead to the others as whole pairs; then from
+-- Areas of blocks by themselves: first from those on that no other one names, since they lead to the others as whole pairs; then from
 -- those that are left.
 pub record AreLone (d : Disk) (before after : List Bool) (areas : List Area) : Type 0 where
   pub first : List Area

@@ -1,5 +1,9 @@
 //! What is told of an entry at which an image has a fault.
 
+ghost use Rattle.std.specs.Prelude.{◌≡◌};
+ghost use Rattle.lfs_meta.specs.BodyHeld.{body_held};
+ghost use Rattle.lfs_survey.specs.Told.{body_head, head_at};
+
 use crate::all_places::entry_at;
 use crate::chain_place::first_without_chain;
 use crate::entry_faults::{first_oversized, first_superblock_elsewhere};
@@ -59,11 +63,23 @@ fn pointer_line(
     format!(in alloc; "{path}: block {block} names block {named} and not {wanted}")
 }
 
-/// The last block of the file at a place, and its size, where it has a chain.
-pub fn chain_of(survey: &Survey, place: EntryPlace) -> Option<(u32, u32)> {
-    match entry_at(survey, place)?.body {
+/// The last block of a body that is a chain, and its size.
+fn head_of(body: &Body) -> Option<(u32, u32)>
+    ensures { result ≡ body_head (body_held body.now) }
+{
+    match *body {
         Body::Chain { head, size } => Some((head, size)),
         _ => None,
+    }
+}
+
+/// The last block of the file at a place, and its size, if it has a chain.
+pub fn chain_of(survey: &Survey, place: EntryPlace) -> Option<(u32, u32)>
+    ensures { result ≡ head_at survey.now.areas.items place }
+{
+    match entry_at(survey, place) {
+        Some(entry) => head_of(&entry.body),
+        None => None,
     }
 }
 

@@ -15,6 +15,9 @@ pub struct Lines {
 }
 
 impl Lines {
+    ghost use Rattle.std.specs.Prelude.{◌≡◌, length, nat_lt};
+    ghost use Rattle.lfs_survey.specs.Told.{counted, more_lines, most_lines};
+
     /// No lines.
     pub fn new(alloc: Global) -> Lines {
         Lines {
@@ -24,7 +27,11 @@ impl Lines {
     }
 
     /// Whether there is room for one more; else it is counted.
-    pub fn takes_one(&mut self) -> bool {
+    pub fn takes_one(&mut self) -> bool
+        ensures room { result ≡ nat_lt (length self.old.told.items) most_lines }
+        ensures told { self.new.told ≡ self.old.told }
+        ensures counted { more_lines self.new ≡ counted result (more_lines self.old) }
+    {
         if self.told.len() < MOST {
             return true;
         }

@@ -1,30 +1,30 @@
 //! Blocks that hold parts by themselves.
 
-ghost use Rattle.std.specs.Prelude.{◌≡◌, ◌<◌, ◌++◌, [], ◌∷◌, cond, true, length, slice_set, IfOk, OnOk};
+ghost use Rattle.std.specs.Prelude.{◌≡◌, ◌<◌, ◌++◌, [], ◌∷◌, cond, true, length, slice_index_or, slice_set, IfOk, OnOk};
 ghost use Rattle.lfs_meta.specs.BodyHeld.{body_held};
-ghost use Rattle.lfs_survey.specs.Lone.{HoldsAs, alone, body_pairs, entries_pairs, is_lone, lone_pairs, marked_by, pairs_named, part_pairs, tail_pairs, unmarked_pairs};
+ghost use Rattle.lfs_survey.specs.Lone.{HoldsAs, alone, body_pairs, entries_pairs, is_lone, lone_pairs, marked_by, marked_of_all, part_pairs, tail_pairs, unmarked_pairs};
 
 use crate::looking::{is_closed, is_open};
 use lfs_block::{Blocks, MountFault};
 use lfs_meta::{Body, Entry, Part, Tail, read_pair, unread_pairs_hold_no_part};
 use std::alloc::{AllocError, Global};
 
-/// Marks a block, where the table has it.
-fn mark_within(table: &mut [bool], block: u32)
-    ensures { table.new ≡ slice_set table.old block true }
+/// Sets a block's flag, if the table has it.
+fn set_within(table: &mut [bool], block: u32, flag: bool)
+    ensures { table.new ≡ slice_set table.old block flag }
 {
     let index = block as usize;
     if index < table.len() {
-        table[index] = true;
+        table[index] = flag;
     }
 }
 
-/// Marks the blocks of a pair, where the table has them.
+/// Marks the blocks of a pair, if the table has them.
 fn mark_both(table: &mut [bool], first: u32, second: u32)
     ensures { table.new ≡ marked_by table.old ((first, second) ∷ []) }
 {
-    mark_within(table, first);
-    mark_within(table, second);
+    set_within(table, first, true);
+    set_within(table, second, true);
 }
 
 /// Marks the blocks that a body leads to.
@@ -63,7 +63,16 @@ fn mark_named(table: &mut [bool], part: &Part)
     mark_tail(table, part.tail);
 }
 
-/// What a pair holds, where it holds a part.
+/// Marks the blocks that the part of a block names, but for that block.
+fn mark_others(table: &mut [bool], block: u32, part: &Part)
+    ensures { table.new ≡ slice_set (marked_by table.old (part_pairs part.now.1)) block (slice_index_or table.old block true) }
+{
+    let own = is_closed(table, block);
+    mark_named(table, part);
+    set_within(table, block, own);
+}
+
+/// What a pair holds, if it holds a part.
 fn part_at<B: Blocks>(
     alloc: Global,
     blocks: &B,
@@ -83,7 +92,7 @@ fn part_at<B: Blocks>(
     }
 }
 
-/// Adds a block as a pair, where it wasn't looked at and holds a part by itself, and marks the blocks that this part names.
+/// Adds a block as a pair, if it wasn't looked at and holds a part by itself, and marks the other blocks that this part names.
 fn add_lone<B: Blocks>(
     alloc: Global,
     blocks: &B,
@@ -95,8 +104,8 @@ fn add_lone<B: Blocks>(
     requires len { length looked.now ≡ (B.disk blocks.now).count }
     ensures pairs { OnOk result (pairs.new.items ≡ pairs.old.items
         ++ cond (is_lone (B.disk blocks.now) looked.now (alone block)) (alone block ∷ []) []) }
-    ensures named { OnOk result (named.new ≡ marked_by named.old (pairs_named (B.disk blocks.now)
-        (cond (is_lone (B.disk blocks.now) looked.now (alone block)) (alone block ∷ []) []))) }
+    ensures named { OnOk result (named.new ≡ marked_of_all (B.disk blocks.now) named.old
+        (cond (is_lone (B.disk blocks.now) looked.now (alone block)) (alone block ∷ []) [])) }
 {
     let pair = (block, block);
     if !is_open(looked, pair) {
@@ -105,12 +114,13 @@ fn add_lone<B: Blocks>(
     let Some(part) = part_at(alloc, blocks, pair)? else {
         return Ok(());
     };
-    mark_named(named, &part);
+    mark_others(named, block, &part);
     pairs.push(pair)?;
     Ok(())
 }
 
-/// The blocks that weren't looked at and hold parts by themselves, as pairs. The blocks that these parts name are marked in `named`.
+/// The blocks that weren't looked at and hold parts by themselves, as pairs. The other blocks that each of these parts names are marked in
+/// `named`.
 pub(crate) fn find_lone<B: Blocks>(
     alloc: Global,
     blocks: &B,
@@ -119,7 +129,7 @@ pub(crate) fn find_lone<B: Blocks>(
 ) -> Result<Vec<(u32, u32)>, AllocError>
     requires len { length looked.now ≡ (B.disk blocks.now).count }
     ensures pairs { IfOk result (λ pairs. pairs.items ≡ lone_pairs (B.disk blocks.now) looked.now (B.disk blocks.now).count) }
-    ensures named { IfOk result (λ pairs. named.new ≡ marked_by named.old (pairs_named (B.disk blocks.now) pairs.items)) }
+    ensures named { IfOk result (λ pairs. named.new ≡ marked_of_all (B.disk blocks.now) named.old pairs.items) }
 {
     let mut pairs = Vec::new(alloc);
     for block in 0..blocks.count() {

@@ -1,5 +1,8 @@
 //! What is told of a pair at which an image has a fault.
 
+ghost use Rattle.std.specs.Prelude.{◌≡◌, true, is_some, IfOk};
+ghost use Rattle.lfs_survey.specs.Told.{is_named_at};
+
 use crate::all_places::{call_at, found_at};
 use crate::blocks_text::BlocksText;
 use crate::call_faults::first_tail_past;
@@ -94,13 +97,16 @@ pub(crate) fn range_line(
     }
 }
 
-/// The pair at a place, which lies past an image of so many blocks, by the way that it is come to. Takes memory.
+/// The pair at a place, which lies past an image of so many blocks, by the way that it is come to; `None` if nothing names it. Takes
+/// memory.
 pub fn past_line(
     alloc: Global,
     survey: &Survey,
     place: Place,
     count: u32,
-) -> Result<Option<String>, AllocError> {
+) -> Result<Option<String>, AllocError>
+    ensures { IfOk result (λ line. is_some line ≡ is_named_at survey.now.areas.items place) }
+{
     let Some(call) = call_at(survey, place) else {
         return Ok(None);
     };
@@ -127,7 +133,9 @@ fn entry_line(
     place: EntryPlace,
     pair: (u32, u32),
     count: u32,
-) -> Result<Option<String>, AllocError> {
+) -> Result<Option<String>, AllocError>
+    ensures { IfOk result (λ line. is_some line ≡ true) }
+{
     let path = PlacedPath::of_entry(alloc, survey, place)?;
     let blocks = BlocksText { pair };
     Ok(Some(format!(in alloc; "{path}: {blocks}, of {count}")?))
@@ -152,7 +160,9 @@ fn tail_line(
     place: Place,
     pair: (u32, u32),
     count: u32,
-) -> Result<Option<String>, AllocError> {
+) -> Result<Option<String>, AllocError>
+    ensures { IfOk result (λ line. is_some line ≡ true) }
+{
     let from = PairText::of(alloc, survey, place)?;
     let blocks = BlocksText { pair };
     Ok(Some(format!(in alloc; "{from}: go on in {blocks}, of {count}")?))

@@ -1,5 +1,8 @@
 //! Pairs, directories and entries of what is found, as they are told.
 
+ghost use Rattle.std.specs.Prelude.{◌≡◌};
+ghost use Rattle.lfs_survey.specs.Told.{pair_at};
+
 use crate::all_places::call_at;
 use crate::blocks_text::BlocksText;
 use crate::entry_place::EntryPlace;
@@ -89,8 +92,10 @@ impl fmt::Display for PairText<'_> {
     }
 }
 
-/// The blocks of the pair at a place; those of the root where there is none.
-pub fn blocks_at(survey: &Survey, place: Place) -> BlocksText {
+/// The blocks of the pair at a place; those of the root if there is none.
+pub fn blocks_at(survey: &Survey, place: Place) -> BlocksText
+    ensures { result.pair ≡ pair_at survey.now.areas.items place }
+{
     match call_at(survey, place) {
         Some(call) => BlocksText { pair: call.pair },
         None => BlocksText { pair: (0, 1) },

@@ -11,7 +11,7 @@ use crate::survey::Survey;
 use lfs_block::MountFault;
 
 /// Whether a pair isn't read for this fault.
-fn is_refused_for(found: &Found, fault: MountFault) -> bool
+pub(crate) fn is_refused_for(found: &Found, fault: MountFault) -> bool
     ensures { MatchBool result (found.now ≡ Refused fault) (found.now ≡ Refused fault → ⊥) }
 {
     match found {

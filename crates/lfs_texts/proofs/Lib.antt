@@ -4,3 +4,4 @@ pub mod StepLemmas
 pub mod WordLemmas
 pub mod ScriptLemmas
 pub mod SaidLemmas
+pub mod FaultLemmas

@@ -7,3 +7,4 @@ pub mod Steps
 pub mod Lines
 pub mod Script
 pub mod OneChange
+pub mod Explanations

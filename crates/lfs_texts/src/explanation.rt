@@ -1,5 +1,9 @@
 //! What the faults mean, and what to do.
 
+ghost use Rattle.std.specs.Prelude.{◌≡◌, Contains, IfSome, IsNone, map};
+ghost use Rattle.std.specs.Bool.{Decides};
+ghost use Rattle.lfs_texts.specs.Explanations.{Fault, SaysFault, IsWordOf, fault_of, faults};
+
 /// What a fault means, and what to do.
 #[derive(Clone, Copy)]
 pub struct Explanation {
@@ -338,32 +342,46 @@ const EXPLANATIONS: [Explanation; 51] = [
     },
 ];
 
-/// The one of some explanations whose fault has a number, in decimal digits, or a name in any case.
-fn found(explanations: &'static [Explanation], fault: &str) -> Option<&'static Explanation> {
-    match fault.parse::<u8>() {
-        Ok(number) => explanations.iter().find(|known| known.number == number),
-        Err(_) => explanations
-            .iter()
-            .find(|known| known.name.eq_ignore_ascii_case(fault)),
+impl Explanation {
+    /// Whether a word is the fault's number, in decimal digits, or its name in any case.
+    fn is_word(&self, word: &str) -> bool
+        ensures { Decides result (IsWordOf word.now (fault_of self.now)) }
+    {
+        match word.parse::<u8>() {
+            Ok(number) => self.number == number,
+            Err(_) => self.name.eq_ignore_ascii_case(word),
+        }
+    }
+
+    /// Whether a text says the fault: by its number, by its name in any case, or by both with a space between.
+    fn is_said(&self, text: &str) -> bool
+        ensures { Decides result (SaysFault text.now (fault_of self.now)) }
+    {
+        match text.split_once(' ') {
+            Some((word, name)) => self.is_word(word) && self.name.eq_ignore_ascii_case(name),
+            None => self.is_word(text),
+        }
     }
 }
 
 /// What a fault means that is said by its number, in decimal digits, by its name in any case, or by both with a space between, as it is
 /// told; nothing where no fault is said so.
-pub fn explained(fault: &str) -> Option<&'static Explanation> {
-    let Some((number, name)) = fault.split_once(" ") else {
-        return found(explanations(), fault);
-    };
-    let known = found(explanations(), number)?;
-    if known.name.eq_ignore_ascii_case(name) {
-        Some(known)
-    } else {
-        None
+pub fn explained(text: &str) -> Option<&'static Explanation>
+    ensures said { IfSome result (λ known. Contains faults (fault_of known.now) × SaysFault text.now (fault_of known.now)) }
+    ensures none { IsNone result → (fault : Fault) → Contains faults fault → ¬ SaysFault text.now fault }
+{
+    'each: for known in explanations() {
+        if known.is_said(text) {
+            return Some(known);
+        }
     }
+    None
 }
 
 /// All faults, in the order of their numbers.
-pub fn explanations() -> &'static [Explanation] {
+pub fn explanations() -> &'static [Explanation]
+    ensures { map fault_of result.now ≡ faults }
+{
     &EXPLANATIONS
 }
 

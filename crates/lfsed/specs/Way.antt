@@ -23,8 +23,9 @@ use Rattle.clap.specs.Words.{Row, Text}
 use Rattle.lfs_request.specs.declared.fault.Fault.{Fault}
 use Rattle.lfs_request.specs.Fault.{status_of}
 use Rattle.lfs_history.specs.History.{History}
+use Rattle.lfs_exchange.specs.Storing.{IsDisplaced}
 use Rattle.lfs_host.specs.Files.{Files}
-use Rattle.lfs_host.specs.Scene.{Scene, WasRefused}
+use Rattle.lfs_host.specs.Scene.{Scene}
 use Rattle.lfs_request.specs.declared.request.Request.{Request}
 use Rattle.lfs_serve.specs.Requests.{FilesDenote, OperationGoesBy}
 use Rattle.lfsed.specs.JsonWord.{plain_words}
@@ -89,7 +90,7 @@ RunGoes size r old new = MatchOption (asked_of r) (new ≡ old) (λ asked. Asked
 -- the host refused the new image its place, where the new journal had got its own: the image is the one that was there
 pub record IsTornIn (name : List ℕ) (r : ProgramRun) (old new : Files) : Type 0 where
   pub status : r.status ≡ 4
-  pub place : WasRefused r.new.has_refused_place
+  pub place : IsDisplaced r.new name
   pub image : new name ≡ old name
 
 -- from a history that the files denote each run leads to the one that they denote behind it, up to one where the host tore image and

@@ -16,9 +16,9 @@ use Rattle.lfs_grammar.specs.Grammar.{grammar}
 use Rattle.lfs_grammar.specs.Hyphens.{IsRead}
 use Rattle.lfs_arguments.specs.Words.{AsksFor, Explains, IsMissaid, LooksIn, SaysAutoImage, SaysAutoOther}
 use Rattle.lfs_arguments.specs.declared.usage_error.UsageError.{UsageError}
-use Rattle.lfs_exchange.specs.Printing.{IsFlushed, PrintsBeginning}
+use Rattle.lfs_exchange.specs.Printing.{HasRefusedOutput, IsFlushed, PrintsBeginning}
 use Rattle.lfs_open.specs.Finding.{EndsFinding}
-use Rattle.lfs_host.specs.Scene.{HasRefused, KeepsAll, KeepsInput, Scene}
+use Rattle.lfs_host.specs.Scene.{KeepsAll, KeepsInput, Scene}
 use Rattle.lfs_serve.specs.Program.{EndsRequest}
 use Rattle.lfs_open.specs.Stated.{IsStatedSize}
 use Rattle.lfsed.specs.JsonWord.{plain_words}
@@ -54,7 +54,7 @@ EndsPrinting old new status =
     KeepsInput old new
     × ((text : List ℕ)
     × (((status ≡ 0) × IsFlushed new × Appends old.printed new.printed text)
-    ⊎ ((status ≡ status_of (Some CannotWrite)) × HasRefused new × PrintsBeginning old.printed new.printed text)))
+    ⊎ ((status ≡ status_of (Some CannotWrite)) × HasRefusedOutput new × PrintsBeginning old.printed new.printed text)))
 
 -- faults are explained; or a word is none of them; or there is no memory for what is said
 abbrev pub EndsExplained : Scene → Scene → ℕ → Type 0

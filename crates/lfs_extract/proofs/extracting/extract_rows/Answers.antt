@@ -1,12 +1,14 @@
 -- The rows of a mounted image can be made where their names are texts.
-use Rattle.std.proofs.Common.{◌∙◌, List, sym, subst, All}
+use Rattle.std.proofs.Common.{◌≡◌, ◌∙◌, List, sym, subst, All}
+use Rattle.std.specs.Prelude.{IfErr}
 use Rattle.lfs_block.specs.Disk.{Disk}
 use Rattle.lfs_fs.specs.Path.{Path}
 use Rattle.lfs_fs.specs.Row.{Row}
 use Rattle.lfs_fs.specs.RowShown.{HasBlocks}
 use Rattle.lfs_fs.specs.Sound.{IsSound}
 use Rattle.lfs_listing.specs.Below.{names}
-use Rattle.lfs_extract.specs.Extracted.{HaveTexts}
+use Rattle.lfs_extract.specs.Extracted.{HasRefusedOne, HaveTexts, all_made}
+use Rattle.lfs_extract.specs.declared.extract_fault.ExtractFault.TheVariants.{CannotWrite}
 use Rattle.lfs_extract.specs.RowsBelow.{rows_below}
 use Rattle.lfs_extract.proofs.NameLemmas.{stay_below}
 use Rattle.lfs_extract.proofs.MakingLemmas.{judges, rows_have_blocks}
@@ -44,4 +46,6 @@ returns-clause-tree g c =
     c.requires.mounted (names c.args.at.now) c.args.dir.now
 
 pub returns-clause-blamed : goal.returns-clause-blamed
-returns-clause-blamed g c = c.make_rows.ensures.blamed
+returns-clause-blamed g c = subst (λ (rows : List Row). IfErr c.make_rows.result (λ fault. fault ≡ CannotWrite
+    → HasRefusedOne (g.F.Known.known c.make_rows.new.folder) (all_made (g.B.Blocks.disk c.args.disk.now) c.args.dir.now (rows_below (names c.args.at.now) rows))))
+    c.rows-2.ensures c.make_rows.ensures.blamed

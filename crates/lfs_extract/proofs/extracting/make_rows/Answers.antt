@@ -12,10 +12,12 @@ use Rattle.lfs_fs.specs.Listed.{Listed, path_after, rows_after, rows_listed}
 use Rattle.lfs_listing.specs.Below.{names}
 use Rattle.lfs_extract.specs.PathBelow.{host_name}
 use Rattle.lfs_host.specs.NewFolder.{Made, Makes}
-use Rattle.lfs_extract.specs.Extracted.{made_node}
+use Rattle.lfs_host.specs.Scene.{HasRefusedMade}
+use Rattle.lfs_extract.specs.Extracted.{IsBegun, made_node}
 use Rattle.lfs_extract.specs.RowsBelow.{IsSharedPrefix}
 use Rattle.lfs_extract.proofs.PrefixLemmas.{left_after}
-use Rattle.lfs_extract.proofs.MakingLemmas.{AreLeft, all_left, has_blocks, has_texts, last_text, named_at, none_left, not_below, one_more, passed, root_left, some_left}
+use Rattle.lfs_extract.proofs.MakingLemmas.{AreLeft, all_left, has_blocks, has_texts, host_blamed, host_stops, last_text, memory_stops, named_at, next_there, none_left, not_below}
+use Rattle.lfs_extract.proofs.MakingLemmas.{one_more, passed, root_left, some_left, stopped, stopped_at}
 use Rattle.lfs_extract.proofs.extracting.make_rows.Goals as goal
 
 pub loop-row-init : goal.loop-row-init
@@ -112,3 +114,82 @@ loop-row-preserved g c =
         );
       },
     )
+
+pub returns-in_err-follow_rest-clause-made : goal.returns-in_err-follow_rest-clause-made
+returns-in_err-follow_rest-clause-made g c =
+    let at : Path = names c.args.at.now in
+    let q : Path = c.loop-row.invariant.0 in
+    let x : Listed = c.in-Some.row in
+    let p : Path = path_after q x.depth x.entry.name in
+    let left : Path = map (λ (n : Bor Name). n.now) c.loop-row.rest.items in
+    let prefix : IsSharedPrefix at p c.behind-prefix.result = c.behind-prefix.ensures q c.loop-row.invariant.1.prefix in
+    let there : is_some (below at p) ≡ true = sym (c.if-not-is_below.ensures p prefix) in
+    let inside : below at p ≡ Some (path_after left (length p - length at) x.entry.name) =
+    left_after at q left x.depth x.entry.name c.loop-row.invariant.1.rest there in
+    memory_stops c.from_residual.result _ _ _ c.from_residual.ensures.1
+    (stopped _ _ _ at _ q c.loop-row.row-iterator c.next.new.self x _ c.loop-row.invariant.1.left c.in-Some.ensures.steps
+    (path_after left (length p - length at) x.entry.name) inside)
+
+pub returns-in_err-name-clause-made : goal.returns-in_err-name-clause-made
+returns-in_err-name-clause-made g c =
+    let at : Path = names c.args.at.now in
+    let q : Path = c.loop-row.invariant.0 in
+    let x : Listed = c.in-Some.row in
+    let p : Path = path_after q x.depth x.entry.name in
+    let left : Path = map (λ (n : Bor Name). n.now) c.loop-row.rest.items in
+    let prefix : IsSharedPrefix at p c.behind-prefix.result = c.behind-prefix.ensures q c.loop-row.invariant.1.prefix in
+    let there : is_some (below at p) ≡ true = sym (c.if-not-is_below.ensures p prefix) in
+    let inside : below at p ≡ Some (path_after left (length p - length at) x.entry.name) =
+    left_after at q left x.depth x.entry.name c.loop-row.invariant.1.rest there in
+    memory_stops c.from_residual-in_err-name.result _ _ _ c.from_residual-in_err-name.ensures.1
+    (stopped _ _ _ at _ q c.loop-row.row-iterator c.next.new.self x _ c.loop-row.invariant.1.left c.in-Some.ensures.steps
+    (path_after left (length p - length at) x.entry.name) inside)
+
+pub returns-in_err-make_row-clause-made : goal.returns-in_err-make_row-clause-made
+returns-in_err-make_row-clause-made g c =
+    let at : Path = names c.args.at.now in
+    let q : Path = c.loop-row.invariant.0 in
+    let x : Listed = c.in-Some.row in
+    let p : Path = path_after q x.depth x.entry.name in
+    let left : Path = map (λ (n : Bor Name). n.now) c.loop-row.rest.items in
+    let prefix : IsSharedPrefix at p c.behind-prefix.result = c.behind-prefix.ensures q c.loop-row.invariant.1.prefix in
+    let there : is_some (below at p) ≡ true = sym (c.if-not-is_below.ensures p prefix) in
+    let rest : Path = map (λ (n : Bor Name). n.now) c.follow_rest.new.rest.items in
+    let goes : rest ≡ path_after left c.more.result x.entry.name =
+    subst (λ (y : Listed). rest ≡ path_after left c.more.result y.entry.name) c.row.view_is c.in_ok-follow_rest.ensures in
+    let inside : below at p ≡ Some rest =
+    left_after at q left x.depth x.entry.name c.loop-row.invariant.1.rest there
+    ∙ ap (λ (i : ℕ). Some (path_after left i x.entry.name)) (sym (c.more.ensures p prefix)) ∙ ap (λ (r : Path). Some r) (sym goes) in
+    let named = named_at c.args.dir.now c.as_str.result.now (string_bytes c.in_ok-name.name) c.deref.result.now c.follow_rest.new.rest.items rest
+    c.as_str.ensures.value c.in_ok-name.ensures c.deref.ensures.value refl in
+    let d : Disk = g.B.Blocks.disk c.args.disk.now in
+    let mid : Option (List Made) = (g.F.Known.known c.loop-row.folder).made in
+    let new : Option (List Made) = (g.F.Known.known c.make_row.new.folder).made in
+    let begun = subst (λ (n : List ℕ). (ms : List Made) × IsBegun (made_node n (shown_node d x.entry)) ms × Makes mid new ms) named
+    c.in_err-make_row.ensures.made in
+    host_stops c.from_residual-in_err-make_row.result _ _ _ c.from_residual-in_err-make_row.ensures.1
+    (stopped_at _ _ _ at _ q c.loop-row.row-iterator c.next.new.self x _ c.loop-row.invariant.1.left c.in-Some.ensures.steps rest inside
+    new begun.0 begun.1 begun.2)
+
+pub returns-in_err-make_row-clause-blamed : goal.returns-in_err-make_row-clause-blamed
+returns-in_err-make_row-clause-blamed g c =
+    let at : Path = names c.args.at.now in
+    let q : Path = c.loop-row.invariant.0 in
+    let x : Listed = c.in-Some.row in
+    let p : Path = path_after q x.depth x.entry.name in
+    let left : Path = map (λ (n : Bor Name). n.now) c.loop-row.rest.items in
+    let prefix : IsSharedPrefix at p c.behind-prefix.result = c.behind-prefix.ensures q c.loop-row.invariant.1.prefix in
+    let there : is_some (below at p) ≡ true = sym (c.if-not-is_below.ensures p prefix) in
+    let rest : Path = map (λ (n : Bor Name). n.now) c.follow_rest.new.rest.items in
+    let goes : rest ≡ path_after left c.more.result x.entry.name =
+    subst (λ (y : Listed). rest ≡ path_after left c.more.result y.entry.name) c.row.view_is c.in_ok-follow_rest.ensures in
+    let inside : below at p ≡ Some rest =
+    left_after at q left x.depth x.entry.name c.loop-row.invariant.1.rest there
+    ∙ ap (λ (i : ℕ). Some (path_after left i x.entry.name)) (sym (c.more.ensures p prefix)) ∙ ap (λ (r : Path). Some r) (sym goes) in
+    let named = named_at c.args.dir.now c.as_str.result.now (string_bytes c.in_ok-name.name) c.deref.result.now c.follow_rest.new.rest.items rest
+    c.as_str.ensures.value c.in_ok-name.ensures c.deref.ensures.value refl in
+    let d : Disk = g.B.Blocks.disk c.args.disk.now in
+    let new = g.F.Known.known c.make_row.new.folder in
+    host_blamed c.from_residual-in_err-make_row.result new _ (made_node (host_name c.args.dir.now rest) (shown_node d x.entry))
+    (next_there _ _ d at c.args.dir.now q c.loop-row.row-iterator c.next.new.self x _ c.loop-row.invariant.1.left c.in-Some.ensures.steps rest inside)
+    (subst (λ (n : List ℕ). HasRefusedMade new (made_node n (shown_node d x.entry))) named c.in_err-make_row.ensures.blamed)

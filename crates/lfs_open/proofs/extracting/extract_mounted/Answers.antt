@@ -1,7 +1,9 @@
 use Rattle.std.proofs.Common.{◌≡◌, ℕ, Bor, List, Option, ap, map, refl, subst, sym}
 use Rattle.std.proofs.lemmas.Result.{err_from_is_err_and}
+use Rattle.std.specs.Prelude.{IfErr}
 use Rattle.std.specs.Result.{result_err}
-use Rattle.lfs_extract.specs.Extracted.{Extracts, JudgesNames, all_made}
+use Rattle.lfs_extract.specs.declared.extract_fault.ExtractFault.TheVariants.{CannotWrite}
+use Rattle.lfs_extract.specs.Extracted.{Extracts, HasRefusedOne, JudgesNames, all_made}
 use Rattle.lfs_extract.specs.RowsBelow.{rows_below}
 use Rattle.lfs_fs.specs.Path.{Path}
 use Rattle.lfs_fs.specs.Row.{Row}
@@ -61,7 +63,9 @@ returns-in_ok-must_be_missing-in-Ok-clause-made g c =
       names = subst (JudgesNames why) same c.extract_rows.ensures.names;
     } in
     subst (EndsMaking d text dir old.tree old.made new) (sym c.told.ensures) (rows_end d text dir old.tree old.made new why makes
-    (fault_blamed c.extract_rows.result new c.extract_rows.ensures.blamed))
+    (fault_blamed c.extract_rows.result new (all_made d dir rows)
+    (subst (λ (rs : List Row). IfErr c.extract_rows.result (λ fault. fault ≡ CannotWrite → HasRefusedOne new (all_made d dir rs))) same
+    c.extract_rows.ensures.blamed)))
 
 pub returns-in_ok-must_be_missing-in-Ok-clause-other : goal.returns-in_ok-must_be_missing-in-Ok-clause-other
 returns-in_ok-must_be_missing-in-Ok-clause-other g c =

@@ -1,12 +1,12 @@
 -- Nothing is made where the image's file isn't read, or a commit of a later version is refused in it.
-use Rattle.std.proofs.Common.{refl, ◌≡◌, ℕ, List, None, Some, ap, ◌∙◌}
+use Rattle.std.proofs.Common.{refl, inl, inr, ◌≡◌, ℕ, List, None, Some, ap, ◌∙◌}
 use Rattle.std.proofs.lemmas.Result.{err_from_is_err_and}
 use Rattle.lfs_host.specs.Scene.{Scene}
 use Rattle.lfs_report.specs.Stop.{stopped_by}
 use Rattle.lfs_command.specs.declared.refusal.Refusal.TheVariants.{Memory}
 use Rattle.lfs_request.specs.declared.fault.Fault.TheVariants.{Refused}
 use Rattle.lfs_request.specs.declared.manner.Manner.{Manner}
-use Rattle.lfs_open.proofs.ExtractingLemmas.{file_unread, not_taken_unread, asked_read, file_ends, file_later}
+use Rattle.lfs_open.proofs.ExtractingLemmas.{file_unread, asked_read, file_ends, file_later}
 use Rattle.lfs_open.proofs.StopLemmas.{stopped_at, reads_at, refused_so}
 use Rattle.lfs_exchange.specs.Handing.{most_image}
 use Rattle.lfs_host.specs.Files.{ReadsFrom}
@@ -26,7 +26,7 @@ returns-in_err-handed-clause-made g c =
     let p = err_from_is_err_and c.from_residual.result c.from_residual.ensures.1 in
     let manner : Manner = record { takes_older = request.takes_older; view = c.args.view } in
     file_unread manner request.size name c.args.path.now c.args.dir.now old new (stopped_by c.from_residual.result) fault (kept.0.0, kept.0.2) kept.2
-    (stopped_at c.from_residual.result fault p.0 p.1 p.2) (not_taken_unread new name fault c.in_err-handed.ensures.refused)
+    (stopped_at c.from_residual.result fault p.0 p.1 p.2) c.in_err-handed.ensures.refused
 
 pub returns-in_err-image-clause-made : goal.returns-in_err-image-clause-made
 returns-in_err-image-clause-made g c =
@@ -38,7 +38,7 @@ returns-in_err-image-clause-made g c =
     let p = err_from_is_err_and on.result on.ensures.1 in
     let manner : Manner = record { takes_older = request.takes_older; view = c.args.view } in
     file_unread manner request.size request.image.now c.args.path.now c.args.dir.now old new (stopped_by on.result) (Refused Memory) (kept.0.0, kept.0.2) kept.2
-    (stopped_at on.result (Refused Memory) p.0 p.1 p.2) refl
+    (stopped_at on.result (Refused Memory) p.0 p.1 p.2) (inl (inr refl))
 
 pub returns-in_err-pass_alone-clause-made : goal.returns-in_err-pass_alone-clause-made
 returns-in_err-pass_alone-clause-made g c =

@@ -8,6 +8,7 @@ use Rattle.lfs_command.specs.declared.refusal.Refusal.TheVariants.{Memory}
 use Rattle.lfs_request.specs.declared.fault.Fault.TheVariants.{Refused}
 use Rattle.lfs_exchange.specs.Handing.{IsUnread}
 use Rattle.lfs_host.specs.Scene.{Scene}
+use Rattle.lfs_history.specs.declared.source.Source.TheVariants.{Input}
 use Rattle.lfs_open.proofs.line_moves.read_lines.Goals as goal
 
 pub returns-clause-read : goal.returns-clause-read
@@ -31,7 +32,7 @@ pub returns-in_err-push-clause-refused : goal.returns-in_err-push-clause-refused
 returns-in_err-push-clause-refused g c =
     let on = c.from_residual-in_err-push in
     let p = err_from_is_err_and on.result on.ensures.1 in
-    told_as on.result (IsUnread (g.H.Known.known c.contents_of.new.host)) (Refused Memory) p.0 p.1 p.2 refl
+    told_as on.result (IsUnread (g.H.Known.known c.contents_of.new.host)) (Refused Memory) p.0 p.1 p.2 (Input, refl)
 
 pub each-preserved : goal.each-preserved
 each-preserved g c =

@@ -1,5 +1,5 @@
 -- Nothing is saved where the image's file isn't read.
-use Rattle.std.proofs.Common.{◌∙◌, ◌≤◌, List, Option, length, refl, subst, sym, true, ℕ}
+use Rattle.std.proofs.Common.{◌∙◌, ◌≤◌, List, Option, inl, inr, length, refl, subst, sym, true, ℕ}
 use Rattle.std.proofs.lemmas.Result.{err_from_is_err_and}
 use Rattle.lfs_exchange.specs.Handing.{most_image}
 use Rattle.lfs_host.specs.Files.{ReadsFrom}
@@ -11,7 +11,7 @@ use Rattle.lfs_request.specs.View.{start_of}
 use Rattle.lfs_request.specs.declared.fault.Fault.{Fault}
 use Rattle.lfs_request.specs.declared.view.View.{View}
 use Rattle.lfs_open.specs.Salvaging.{EndsSalvaged}
-use Rattle.lfs_open.proofs.ExtractingLemmas.{asked_read, not_taken_unread}
+use Rattle.lfs_open.proofs.ExtractingLemmas.{asked_read}
 use Rattle.lfs_open.proofs.ReadLengths.{read_long}
 use Rattle.lfs_open.proofs.SalvagingLemmas.{file_salvaged, file_unsaved}
 use Rattle.lfs_open.proofs.StopLemmas.{stopped_at}
@@ -27,7 +27,7 @@ returns-in_err-handed-clause-made g c =
     let kept = c.taken_up.ensures.kept in
     let p = err_from_is_err_and c.from_residual.result c.from_residual.ensures.1 in
     file_unsaved c.args.view request.size name c.args.dir.now old new (stopped_by c.from_residual.result) fault (kept.0.0, kept.0.2) kept.2
-    (stopped_at c.from_residual.result fault p.0 p.1 p.2) (not_taken_unread new name fault c.in_err-handed.ensures.refused)
+    (stopped_at c.from_residual.result fault p.0 p.1 p.2) c.in_err-handed.ensures.refused
 
 pub returns-in_err-own-clause-made : goal.returns-in_err-own-clause-made
 returns-in_err-own-clause-made g c =
@@ -38,7 +38,7 @@ returns-in_err-own-clause-made g c =
     let on = c.from_residual-in_err-own in
     let p = err_from_is_err_and on.result on.ensures.1 in
     file_unsaved c.args.view request.size request.image.now c.args.dir.now old new (stopped_by on.result) (Refused Memory)
-    (kept.0.0, kept.0.2) kept.2 (stopped_at on.result (Refused Memory) p.0 p.1 p.2) refl
+    (kept.0.0, kept.0.2) kept.2 (stopped_at on.result (Refused Memory) p.0 p.1 p.2) (inl (inr refl))
 
 pub returns-in_err-read-clause-made : goal.returns-in_err-read-clause-made
 returns-in_err-read-clause-made g c =
@@ -49,7 +49,7 @@ returns-in_err-read-clause-made g c =
     let on = c.from_residual-in_err-read in
     let p = err_from_is_err_and on.result on.ensures.1 in
     file_unsaved c.args.view request.size request.image.now c.args.dir.now old new (stopped_by on.result) (Refused Memory)
-    (kept.0.0, kept.0.2) kept.2 (stopped_at on.result (Refused Memory) p.0 p.1 p.2) refl
+    (kept.0.0, kept.0.2) kept.2 (stopped_at on.result (Refused Memory) p.0 p.1 p.2) (inl (inr refl))
 
 pub salvage_bytes-requires : goal.salvage_bytes-requires
 salvage_bytes-requires g c =

@@ -74,6 +74,14 @@ returns-in_err-name-clause-below g c =
     below_then base (g.F.Known.known c.args.folder.now).made (g.F.Known.known c.each.folder).made (g.F.Known.known c.save_found.new.folder).made
     c.each.invariant.below (c.save_found.ensures.below base (below_itself base) names)
 
+pub returns-in_err-name-clause-blamed : goal.returns-in_err-name-clause-blamed
+returns-in_err-name-clause-blamed g c =
+    let base : List ℕ = c.args.base.now in
+    let slice : c.deref.result.now ≡ c.each.folders.items = c.deref.ensures.value in
+    let names = subst (All (λ (x : String Global). IsNameBelow base (string_bytes x))) (sym slice) c.each.invariant.names in
+    let p = err_from_is_err_and c.from_residual.result c.from_residual.ensures.1 in
+    rw (p.1, p.2) (c.in_err-name.ensures.blamed base (below_itself base) names)
+
 pub returns-in_err-push_folder-clause-made : goal.returns-in_err-push_folder-clause-made
 returns-in_err-push_folder-clause-made g c =
     let d : Disk = g.B.Blocks.disk c.args.disk.now in

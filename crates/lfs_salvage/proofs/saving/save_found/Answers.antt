@@ -98,6 +98,12 @@ returns-in_err-save_entries-clause-below g c = λ top above all.
     (g.F.Known.known c.save_entries.new.folder).made (c.start_folder.ensures.below top above all)
     (c.save_entries.ensures.below top (subst (IsNameBelow top) (sym c.as_str.ensures.value) (c.in_ok-name.ensures.named top above all)))
 
+pub returns-in_err-save_entries-clause-blamed : goal.returns-in_err-save_entries-clause-blamed
+returns-in_err-save_entries-clause-blamed g c = λ top above all.
+    let p = err_from_is_err_and c.from_residual-in_err-save_entries.result c.from_residual-in_err-save_entries.ensures.1 in
+    rw (p.1, p.2) (c.in_err-save_entries.ensures.blamed top
+    (subst (IsNameBelow top) (sym c.as_str.ensures.value) (c.in_ok-name.ensures.named top above all)))
+
 pub returns-clause-made : goal.returns-clause-made
 returns-clause-made g c =
     let d : Disk = g.B.Blocks.disk c.args.disk.now in

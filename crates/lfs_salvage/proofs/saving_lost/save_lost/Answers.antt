@@ -11,7 +11,7 @@ use Rattle.lfs_salvage.specs.Lost.{area_folder, front_made, has_start}
 use Rattle.lfs_salvage.specs.Saving.{Saves, Stops}
 use Rattle.lfs_salvage.specs.declared.block_use.BlockUse.{BlockUse}
 use Rattle.lfs_salvage.specs.declared.front.Front.{Front}
-use Rattle.lfs_salvage.proofs.LostFolderLemmas.{made_below}
+use Rattle.lfs_salvage.proofs.LostFolderLemmas.{blamed_below, made_below}
 use Rattle.lfs_salvage.proofs.LostLemmas.{none_made, some_made}
 use Rattle.lfs_salvage.proofs.SavingLemmas.{below_then, none_first, stops_first, then_saves}
 use Rattle.lfs_survey.specs.declared.area.Area.{Area}
@@ -88,3 +88,10 @@ returns-clause-below g c =
     let named : c.as_str.result.now ≡ area_folder c.args.lost.now c.args.area.now = c.as_str.ensures.value ∙ c.in_ok-base.ensures.value in
     let base : IsNameBelow dir c.as_str.result.now = subst (IsNameBelow dir) (sym named) (c.area_folder.ensures.below dir c.requires) in
     below_then dir old mid new c.make_front.ensures.below (made_below dir c.as_str.result.now mid new base c.save_area.ensures.below)
+
+pub returns-clause-blamed : goal.returns-clause-blamed
+returns-clause-blamed g c =
+    let dir : List ℕ = c.args.dir.now in
+    let named : c.as_str.result.now ≡ area_folder c.args.lost.now c.args.area.now = c.as_str.ensures.value ∙ c.in_ok-base.ensures.value in
+    let base : IsNameBelow dir c.as_str.result.now = subst (IsNameBelow dir) (sym named) (c.area_folder.ensures.below dir c.requires) in
+    blamed_below c.save_area.result dir c.as_str.result.now (g.F.Known.known c.save_area.new.folder) base c.save_area.ensures.blamed

@@ -16,6 +16,7 @@ use Rattle.lfs_open.specs.LineMoves.{HandsLine, moves_said}
 use Rattle.lfs_serve.specs.Batching.{BecomesOf, as_asked}
 use Rattle.lfs_serve.proofs.BatchingLemmas.{all_in_range, ends_by, ends_from, takes_lines}
 use Rattle.lfs_open.proofs.StopLemmas.{stopped_at}
+use Rattle.lfs_history.specs.declared.source.Source.TheVariants.{Input}
 use Rattle.lfs_serve.proofs.batching.lines_batched.Goals as goal
 
 pub moves_of-requires : goal.moves_of-requires
@@ -42,7 +43,7 @@ pub returns-in_err-moves-clause-ended : goal.returns-in_err-moves-clause-ended
 returns-in_err-moves-clause-ended g c =
     let p = err_from_is_err_and c.from_residual-in_err-moves.result c.from_residual-in_err-moves.ensures.1 in
     let kept = c.read_lines.ensures.kept.0 in
-    inr ((kept.0, kept.2), (Refused No_memory, stopped_at c.from_residual-in_err-moves.result (Refused No_memory) p.0 p.1 p.2, inl refl))
+    inr ((kept.0, kept.2), (Refused No_memory, stopped_at c.from_residual-in_err-moves.result (Refused No_memory) p.0 p.1 p.2, inl (Input, refl)))
 
 pub returns-clause-ended : goal.returns-clause-ended
 returns-clause-ended g c =

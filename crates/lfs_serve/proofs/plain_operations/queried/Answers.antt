@@ -100,7 +100,7 @@ stepped_in-requires-clause-claimed g c =
     let mid : Scene = g.H.Known.known c.taken_up.new.host in
     let new : Scene = g.H.Known.known c.question_of.new.host in
     let at = string_bytes c.in_ok-handed.handed.target in
-    claimed_at c.in_ok-handed.handed.kind mid new at at refl c.question_of.ensures.kept.4 c.in_ok-handed.ensures.claimed
+    claimed_at c.in_ok-handed.handed.kind mid new at at refl c.question_of.ensures.kept.3 c.in_ok-handed.ensures.claimed
 
 pub stepped_in-requires-clause-handed : goal.stepped_in-requires-clause-handed
 stepped_in-requires-clause-handed g c =

@@ -120,7 +120,7 @@ stepped-end-requires-clause-claimed g c =
     let mid : Scene = g.H.Known.known c.taken_up.new.host in
     let new : Scene = g.H.Known.known c.open_source.new.host in
     let at = string_bytes c.in_ok-handed.handed.target in
-    claimed_at c.in_ok-handed.handed.kind mid new at at refl c.open_source.ensures.kept.4 c.in_ok-handed.ensures.claimed
+    claimed_at c.in_ok-handed.handed.kind mid new at at refl c.open_source.ensures.kept.3 c.in_ok-handed.ensures.claimed
 
 pub stepped-end-requires-clause-handed : goal.stepped-end-requires-clause-handed
 stepped-end-requires-clause-handed g c =

@@ -7,11 +7,12 @@ use Rattle.lfs_exchange.specs.Printing.{HandsOn}
 use Rattle.lfs_request.specs.View.{start_of}
 use Rattle.lfs_serve.specs.StepKind.{kind_of}
 use Rattle.lfs_exchange.specs.declared.step_kind.StepKind.{StepKind}
+use Rattle.lfs_host.specs.Files.{IsTarget}
 use Rattle.lfs_host.specs.Scene.{Scene}
 use Rattle.lfs_open.specs.Later.{refused_by}
 use Rattle.lfs_open.specs.ReadBy.{IsReadBy}
 use Rattle.lfs_serve.specs.LaterRead.{later_read}
-use Rattle.lfs_serve.specs.Program.{RunsStep}
+use Rattle.lfs_serve.specs.Program.{IsUnwritten, RunsStep}
 use Rattle.lfs_open.proofs.StopLemmas.{stopped_at, refused_so}
 use Rattle.lfs_serve.proofs.StepLemmas.{ends_behind, ends_later, ends_refused, ends_unhanded, ends_wanting, leaves_at, spares_at, step_ran}
 use Rattle.lfs_report.specs.Stop.{stopped_by}
@@ -69,10 +70,12 @@ returns-in_err-stored-in-Ok-clause-ended g c =
     (subst (λ (xs : List ℕ). IsReadBy manner.view size xs c.in_ok-read.read.items) (c.unfinished_in-held.ensures ∙ c.lines_taken_over-whole.ensures) c.in_ok-read.ensures.read))
     c.in-Ok.ensures.ran.1 c.in-Ok.ensures.ran.2 c.in-Ok.ensures.ran.3 c.stored.ensures.kept.1 tt in
     let fault = c.in_err-stored-in-Ok.field-0.0 in
-    let spares = spares_at fault c.args.handed.kind (kind_of step) by_stored.has_refused_place old.files by_taken.files by_stored.files name target
-    c.as_str.result.now outcome c.in-Ok.outcome c.requires.target (search rules) files c.requires.kind c.in-Ok.ensures.ran.4
+    let at_is : c.as_str.result.now ≡ target = search rules in
+    let unwritten : IsUnwritten old by_stored name fault = (c.as_str.result.now, subst (IsTarget old.files name) (sym at_is) c.requires.target, c.in_err-stored-in-Ok.ensures.refused) in
+    let spares = spares_at fault c.args.handed.kind (kind_of step) by_stored old.files by_taken.files by_stored.files name target
+    c.as_str.result.now outcome c.in-Ok.outcome c.requires.target at_is files c.requires.kind c.in-Ok.ensures.ran.4
     c.in_err-stored-in-Ok.ensures.files in
-    ends_behind step manner size name old by_stored _ fault outcome None refl (search rules) c.in_err-stored-in-Ok.ensures.refused runs spares
+    ends_behind step manner size name old by_stored _ fault outcome None refl (search rules) unwritten runs spares
 
 pub returns-in-Ok-clause-ended : goal.returns-in-Ok-clause-ended
 returns-in-Ok-clause-ended g c =

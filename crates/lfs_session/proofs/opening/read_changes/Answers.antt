@@ -1,11 +1,11 @@
 -- The changes that were read agree with the image.
-use Rattle.std.proofs.Common.{◌≡◌, ◌≤◌, List, length, take, drop, reverse, subst, sym, ◌∙◌}
+use Rattle.std.proofs.Common.{◌≡◌, ◌≢◌, ◌≤◌, List, length, take, drop, reverse, subst, sym, ◌∙◌}
 use Rattle.std.proofs.lemmas.Result.{IfOk-from_err, err_from_is_err_and}
 use Rattle.lfs_history.specs.Faults.{opened_fault}
 use Rattle.lfs_history.specs.History.{GoesBack, GoesForward}
-use Rattle.lfs_history.specs.declared.open_fault.OpenFault.TheVariants.{Mount}
+use Rattle.lfs_history.specs.declared.open_fault.OpenFault.TheVariants.{JournalImage, Mount}
 use Rattle.lfs_session.specs.Known.{HaveSize, HasRoom}
-use Rattle.lfs_session.proofs.OpeningLemmas.{agreed, book_patches, book_sizes, mount_mounts, no_journal, refused_as, not_agreed, mount_outlined}
+use Rattle.lfs_session.proofs.OpeningLemmas.{agreed, book_patches, book_sizes, journal_is_other, mount_is_other, mount_mounts, no_journal, refused_as, not_agreed, mount_outlined}
 use Rattle.lfs_history.specs.Opening.{HasHistory}
 use Rattle.lfs_fs.specs.Mounted.{IsOutlineOf}
 use Rattle.lfs_session.proofs.RoomLemmas.{room_same}
@@ -81,6 +81,20 @@ returns-in_err-journal-clause-refused c =
     let p = err_from_is_err_and on.result on.ensures.1 in
     refused_as on.result _ (opened_fault fault) p.0 p.1 p.2
     (no_journal fault d c.args.journal.now (mount_mounts d c.in_ok-mount.field-0 c.in_ok-mount.ensures.mounted) c.in_err-journal.ensures.refused)
+
+pub returns-in_err-mount-clause-unasked : goal.returns-in_err-mount-clause-unasked
+returns-in_err-mount-clause-unasked c =
+    let on = c.from_residual in
+    let fault = c.in_err-mount.field-0.0 in
+    let p = err_from_is_err_and on.result on.ensures.1 in
+    refused_as on.result (λ f. f ≢ JournalImage) (Mount fault) p.0 p.1 p.2 (mount_is_other fault)
+
+pub returns-in_err-journal-clause-unasked : goal.returns-in_err-journal-clause-unasked
+returns-in_err-journal-clause-unasked c =
+    let on = c.from_residual-in_err-journal in
+    let fault = c.in_err-journal.field-0.0 in
+    let p = err_from_is_err_and on.result on.ensures.1 in
+    refused_as on.result (λ f. f ≢ JournalImage) (opened_fault fault) p.0 p.1 p.2 (journal_is_other fault)
 
 pub returns-then-size-clause-refused : goal.returns-then-size-clause-refused
 returns-then-size-clause-refused c =

@@ -5,7 +5,7 @@ use Rattle.lfs_block.specs.Disk.{Disk}
 use Rattle.lfs_meta.specs.Body.{Pair}
 use Rattle.lfs_survey.specs.Survey.{AddsAreas, area_tails}
 use Rattle.lfs_survey.specs.declared.area.Area.{Area}
-use Rattle.lfs_survey.proofs.AlongLemmas.{along_begin, along_more}
+use Rattle.lfs_survey.proofs.AlongLemmas.{along_all, along_begin, along_more}
 use Rattle.lfs_survey.proofs.lone.areas_along.Goals as goal
 
 pub areas-init : goal.areas-init
@@ -24,6 +24,11 @@ areas-preserved g c =
     c.add_areas-in-areas.new.areas.items c.areas.next c.index.result.now c.areas.invariant within c.index.ensures
     (subst (λ (ps : List Pair). AddsAreas d c.areas.looked c.add_areas-in-areas.new.looked c.areas.areas.items
     c.add_areas-in-areas.new.areas.items ps) tails c.in_ok-add_areas-2.ensures)
+
+pub returns-clause-areas : goal.returns-clause-areas
+returns-clause-areas g c =
+    along_all (g.B.Blocks.disk c.args.blocks.now) c.args.looked.now c.areas.looked c.args.starts.now c.areas.areas.items c.areas.next
+    c.areas.invariant (let len = c.len.ensures in let test = c.areas-test.false in omega arith)
 
 pub returns-in_err-add_areas-clause-areas : goal.returns-in_err-add_areas-clause-areas
 returns-in_err-add_areas-clause-areas g c = rw (err_from_is_err_and c.from_residual.result c.from_residual.ensures.1).1 tt

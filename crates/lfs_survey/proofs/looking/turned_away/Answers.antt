@@ -1,5 +1,5 @@
 -- The first block is past the table's end, or the second.
-use Rattle.std.proofs.Common.{true, inl, inr, sym, ◌∙◌}
+use Rattle.std.proofs.Common.{inl, inr, sym, ◌∙◌}
 use Rattle.std.proofs.lemmas.Bool.{leb-true}
 use Rattle.lfs_survey.proofs.looking.turned_away.Goals as goal
 use Rattle.lfs_survey.proofs.looking.turned_away.Goals.{then-pair-len, else-pair-len}

@@ -1,11 +1,12 @@
-use Rattle.std.proofs.Common.{◌≤◌, arith, Option, subst, map, reverse, string_bytes, length}
+use Rattle.std.proofs.Common.{◌≤◌, arith, inl, inr, Option, subst, map, reverse, string_bytes, length}
 use Rattle.std.specs.Prelude.{IfSome}
 use Rattle.std.proofs.lemmas.Result.{on_ok_weaker, IfErr-weaker}
 use Rattle.lfs_extract.specs.declared.walking.TheConstants.{MOST_BYTES}
+use Rattle.lfs_host.proofs.BlameLemmas.{noted_refused}
 use Rattle.lfs_host.specs.HostTree.{HostTree, IsKind, ReadsEntry}
 use Rattle.lfs_extract.specs.FolderRows.{BlamesHost, RefusesFolderRows, most_rows}
 use Rattle.lfs_extract.specs.FolderWalk.{EntersFolder, IsHostBlamed, RefusesFolder}
-use Rattle.lfs_extract.proofs.WalkStepLemmas.{step_file, step_folder, walk_blamed, walk_missing, walk_other, walk_refused, walk_too_long}
+use Rattle.lfs_extract.proofs.WalkStepLemmas.{reading_unread, step_file, step_folder, walk_blamed, walk_missing, walk_other, walk_refused, walk_too_long}
 use Rattle.lfs_extract.proofs.walking.FolderWalk.visit.Goals as goal
 
 pub returns-in-Folder-clause-walking : goal.returns-in-Folder-clause-walking
@@ -69,5 +70,22 @@ returns-in-Folder-clause-blamed g c =
     let known = (g.H.Known.known c.args.host.now).tree in
     let seen = (g.H.Known.known c.kind.new.self).tree in
     let new = g.H.Known.known c.enter.new.host in
-    IfErr-weaker c.enter.result (λ fault. IsHostBlamed seen new fault) (λ fault. BlamesHost known c.args.dir.now new fault)
-    (λ fault why. walk_blamed known seen c.args.dir.now new fault c.kind.ensures.kept.1 why) c.enter.ensures.blamed
+    let waiting = map (λ s. string_bytes s) (reverse c.args.self.now.waiting.items) in
+    IfErr-weaker c.enter.result (λ fault. IsHostBlamed seen c.args.name.now new fault) (λ fault. BlamesHost known c.args.dir.now new fault)
+    (λ fault why. walk_blamed MOST_BYTES known seen c.args.dir.now c.args.name.now c.args.self.now.rows.items waiting new fault c.requires
+    c.kind.ensures.kept.1 why) c.enter.ensures.blamed
+
+pub returns-in_err-kind-clause-blamed : goal.returns-in_err-kind-clause-blamed
+returns-in_err-kind-clause-blamed g c =
+    let known = (g.H.Known.known c.args.host.now).tree in
+    let waiting = map (λ s. string_bytes s) (reverse c.args.self.now.waiting.items) in
+    reading_unread MOST_BYTES known c.args.dir.now c.args.name.now c.args.self.now.rows.items waiting (g.H.Known.known c.kind.new.self)
+    c.in_err-kind.field-0.0 c.from_residual.result c.requires (λ is. inl (noted_refused _ _ _ _ is c.in_err-kind.ensures.noted)) c.from_residual.ensures.1
+
+pub returns-in_err-bytes-in-File-clause-blamed : goal.returns-in_err-bytes-in-File-clause-blamed
+returns-in_err-bytes-in-File-clause-blamed g c =
+    let known = (g.H.Known.known c.args.host.now).tree in
+    let waiting = map (λ s. string_bytes s) (reverse c.args.self.now.waiting.items) in
+    reading_unread MOST_BYTES known c.args.dir.now c.args.name.now c.args.self.now.rows.items waiting (g.H.Known.known c.read_entry.new.self)
+    c.in_err-bytes-in-File.field-0.0 c.from_residual-in_err-bytes-in-File.result c.requires
+    (λ is. inr (inr (noted_refused _ _ _ _ is c.in_err-bytes-in-File.ensures.noted))) c.from_residual-in_err-bytes-in-File.ensures.1
