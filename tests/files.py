@@ -181,6 +181,21 @@ def an_image_that_another_keeps(files):
             status, said = files.run(words)
             files.check(f"an image that is kept is read: {words}", status == 0 and not said, (status, said))
     files.must(["mkdir", "--block", "512", "a.img", "/d"])
+    with tempfile.TemporaryDirectory() as folder:
+        os.chmod(folder, 0o755)
+        locked_first(files, Refusing(pathlib.Path(folder)))
+
+
+def locked_first(files, refusing):
+    """A run that changes an image asks for its lock before it reads anything: its first read would fail, and there is none."""
+    with open(files.image, "rb") as kept:
+        fcntl.flock(kept, fcntl.LOCK_EX)
+        for command, *words in (
+            ["mkdir", "a.img", "/e"], ["put", "a.img", "/f"], ["rm", "a.img", "/d"], ["undo", "a.img"], ["forget", "a.img"],
+            ["adopt", "a.img"], ["grow", "a.img", "70"], ["repack", "a.img", "a.img"], ["repack", "--from-block", "512", "a.img", "a.img"],
+        ):
+            status, said = files.run([command, "--block", "512", *words], b"contents", env=refusing.env(1, "read"))
+            files.check(f"{command} reads nothing of an image that is kept", status == 4 and not refusing.was_hit(), (status, said))
 
 
 def make_source(files):
