@@ -15,7 +15,7 @@ DOCUMENTS = sorted([*HOME.glob("*.md"), *HOME.glob("docs/*.md")])
 # What makes files of the sources.
 GENERATORS = "bin/contracts", "bin/map", "bin/pictures"
 # How many words all documents may have, and one sentence outside tables and blocks.
-MOST_WORDS, MOST_WORDS_OF_A_SENTENCE = 26_000, 40
+MOST_WORDS, MOST_WORDS_OF_A_SENTENCE = 28_000, 40
 # Folders below which a path that is named stands.
 FOLDERS = "bench", "bin", "completions", "crates", "docs", "man", "python", "share", "tests"
 

@@ -192,7 +192,7 @@ def locked_first(files, refusing):
         fcntl.flock(kept, fcntl.LOCK_EX)
         for command, *words in (
             ["mkdir", "a.img", "/e"], ["put", "a.img", "/f"], ["rm", "a.img", "/d"], ["undo", "a.img"], ["forget", "a.img"],
-            ["adopt", "a.img"], ["grow", "a.img", "70"], ["repack", "a.img", "a.img"], ["repack", "--from-block", "512", "a.img", "a.img"],
+            ["adopt", "a.img"], ["grow", "a.img", "70"], ["repack", "--from-block", "512", "a.img", "a.img"],
         ):
             status, said = files.run([command, "--block", "512", *words], b"contents", env=refusing.env(1, "read"))
             files.check(f"{command} reads nothing of an image that is kept", status == 4 and not refusing.was_hit(), (status, said))
