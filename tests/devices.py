@@ -105,7 +105,13 @@ LOWERED = bytes.fromhex(
     "c895baf9ffffffffffffffffffffffff"
 )
 
+# A file's contents that read as a superblock's of version 2.1.
+ALIKE = struct.pack("<6I", LATER, SIZE, COUNT, 255, 1_000, 100)
+
 WRITTEN = {
+    "a file of the root that reads as a superblock": Row(eight({0: written(1, SIZE, root(file(1, b"a", ALIKE)))}), tree({"/a": ALIKE}), "first"),
+    "the first file of a directory that reads as one": Row(
+        eight({0: written(1, SIZE, root(TO_DIRECTORY)), 2: written(1, SIZE, file(0, b"f", ALIKE))}), tree({"/d": None, "/d/f": ALIKE}), "first"),
     "by version 2.0": Row(eight({0: PLAIN}), HAS_EARLY, HAS_EARLY),
     "by version 2.0, in several commits": Row(
         eight({0: spelled(root(TO_DIRECTORY, version=FIRST), attribute(0, 1, b"of the root"), attribute(0, 1, None)), 2: spelled(file(0, b"f", b"in"))}),
