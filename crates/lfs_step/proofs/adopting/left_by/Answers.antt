@@ -20,7 +20,7 @@ returns-clause-journal c =
     let old = c.args.journal.items in
     let e : Disk = adopted_with c.args.image.disk c.args.adoption in
     let put : c.put_drafted.new.image.disk ≡ e =
-    c.put_drafted.ensures
+    c.put_drafted.ensures.disk
     ∙ ap (λ (os : List (Option (List ℕ))). drafted (record { base = c.args.image.disk; blocks = os })) c.deref.ensures.value in
     let fresh = journal_bytes (journal_of (fresh_history e)) in
     let goes : journal_stays c.args.adoption.changed.items old ≡ false =
