@@ -28,13 +28,13 @@ zero byte, is listed and taken in batches; the program's command line doesn't ta
 program is the one that the variable LFSED names, or else the one beside this module, or on the path.
 """
 from ._faults import Fault, HostFault, ImageFault, UsageError, Refusal
-from ._image import Batch, Image, format, pack, repack
-from ._records import Change, Difference, Limits, Row, Summary
+from ._image import Batch, Image, find, format, pack, repack
+from ._records import BlockRange, BlockSum, Change, Difference, Limits, Place, Row, Summary
 
 __version__ = "0.2.0"
 __all__ = [
-    "Batch", "Change", "Difference", "Fault", "HostFault", "Image", "ImageFault", "Limits", "UsageError", "Refusal", "Row", "Summary", "format",
-    "pack", "repack",
+    "Batch", "BlockRange", "BlockSum", "Change", "Difference", "Fault", "HostFault", "Image", "ImageFault", "Limits", "Place", "UsageError",
+    "Refusal", "Row", "Summary", "find", "format", "pack", "repack",
 ]
 
 for each in Fault, HostFault, ImageFault, UsageError, Refusal:
