@@ -137,9 +137,10 @@ def is_installed(counts, prefix):
     ended = subprocess.run([prefix / "bin/lfsed", "--version"], stdout=subprocess.PIPE, text=True)
     counts.check("installed", ended.stdout == "lfsed 0.2.0\n", ended)
     (prefix / "share/man/man1/other.1").write_bytes(b"")
-    kept = prefix / "share/lfsed/python/lfsed/__pycache__"
-    kept.mkdir()
-    (kept / "lfsed.pyc").write_bytes(b"")
+    for place in "lfsed/__pycache__", "build", "lfsed.egg-info":
+        kept = prefix / "share/lfsed/python" / place
+        kept.mkdir()
+        (kept / "file").write_bytes(b"")
     ended = subprocess.run([HOME / "bin/install", "--uninstall", prefix], capture_output=True)
     counts.check("uninstall", (ended.returncode, ended.stdout, ended.stderr) == (0, b"", b""), ended)
     counts.check("uninstalled", files_below(prefix) == {"share/man/man1/other.1"}, files_below(prefix))

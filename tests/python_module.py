@@ -32,6 +32,9 @@ os.environ["LFSED"] = str(PROGRAM)
 import lfsed  # noqa: E402
 
 FILES = sorted((HOME / "python/lfsed").glob("*.py"))
+# Pythons that may have what pip needs to install the module, and what that is.
+PYTHONS = sys.executable, "/usr/bin/python3"
+WANTED = "import setuptools, wheel, pip; assert int(setuptools.__version__.split('.')[0]) >= 61"
 # A script that uses the module, with types.
 USES = HOME / "tests/support/uses.py"
 # What a name is made of, where the host takes it too, and what it may be made of besides.
@@ -676,6 +679,27 @@ def is_used(counts):
     counts.check("uses", (ended.returncode, ended.stderr) == (0, ""), ended.stderr)
 
 
+def has_pip(python):
+    """Whether a Python has what pip needs."""
+    return pathlib.Path(python).exists() and not subprocess.run([python, "-c", WANTED], capture_output=True, check=False).returncode
+
+
+def is_installed(counts):
+    """Without a network, pip installs the folder: the module's files, with its version."""
+    python = next(filter(has_pip, PYTHONS), None)
+    if not python:
+        print("pip, setuptools of 61 or later, or wheel isn't there")
+        return
+    shutil.copytree(HOME / "python", "python", ignore=shutil.ignore_patterns("build", "*.egg-info", "__pycache__"))
+    command = [python, "-m", "pip", "install", "--no-build-isolation", "--no-index", "--no-deps", "--no-compile", "--target", "installed"]
+    ended = subprocess.run([*command, "python/"], stdout=subprocess.PIPE, stderr=subprocess.STDOUT, text=True, check=False)
+    counts.check("pip install", ended.returncode == 0, ended.stdout)
+    found = sorted(path.name for path in pathlib.Path("installed/lfsed").glob("*"))
+    counts.check("pip install: files", found == sorted(path.name for path in [*FILES, HOME / "python/lfsed/py.typed"]), found)
+    metadata = pathlib.Path(f"installed/lfsed-{lfsed.__version__}.dist-info/METADATA")
+    counts.check("pip install: version", metadata.is_file() and f"\nVersion: {lfsed.__version__}\n" in metadata.read_text())
+
+
 def examples(counts):
     """The examples in doc strings."""
     for path in FILES:
@@ -692,6 +716,7 @@ def main():
         os.chdir(room)
         examples(counts)
         is_used(counts)
+        is_installed(counts)
         faults(counts)
         broken_off(counts)
         is_shared(counts)
