@@ -159,7 +159,7 @@ class Image:
 
     def walk(self, path: ImagePath = "/") -> Iterator[Tuple[str, List[str], List[str]]]:
         """Each directory from a path on, before those in it: its path, the names of its directories and those of its files. As with
-        `os.walk` those of directories that are removed from the list are left out.
+        `os.walk` a directory isn't entered whose name is taken out of the list.
 
         >>> image = format("wa.img", block=512, count=16)
         >>> image.write("/etc/id", b"7", parents=True)
