@@ -395,10 +395,9 @@ def are_salvaged(counts):
         made = f"of {name}"
         raises(counts, f"salvage {name}", lfsed.ImageFault, 3, "NoValidCommit", lines, lambda: damaged.salvage(made))  # noqa: B023
         counts.check(f"salvage {name}: saved", made_in(made) == {"key": b"one"}, made_in(made))
-    told = ["orphan.img: blocks 2 and 3: no path leads there: saved as lost+found/2"]
+    told = ["doesn't mount (17 Orphan); nothing is lost", "blocks 2 and 3: no path leads there: saved as lost+found/2"]
     found = lfsed.Image("orphan.img", 512).salvage("of an orphan")
-    is_told = found[0].startswith("orphan.img: doesn't mount (17 Orphan); nothing is lost") if len(found) > 1 else True
-    counts.check("salvage: told", found[-1:] == told and is_told, found)
+    counts.check("salvage: told", found == [f"orphan.img: {line}" for line in told], found)
     counts.check("salvage: an orphan", made_in("of an orphan") == {"key": b"one", "lost+found/2/f": b"two"}, made_in("of an orphan"))
     there = ["of an orphan: is there already"]
     again = lfsed.Image("orphan.img", 512)
