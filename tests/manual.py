@@ -1,6 +1,6 @@
 #!/usr/bin/env python3
 """Installs the program into a folder of its own; compares the manual page and the completions with what bin/manual makes of the
-program's commands now, and asks the completions of bash what they complete."""
+program's commands now, tries words that aren't taken, and asks the completions of bash what they complete."""
 import pathlib
 import subprocess
 import sys
@@ -23,6 +23,11 @@ INSTALLED = {
 # Folders that are installed with all that is in them.
 FOLDERS = {"share/cmake/lfsed": "share/cmake/lfsed", "share/lfsed/python/lfsed": "python/lfsed", "share/doc/lfsed/docs": "docs"}
 COMMANDS = "adopt batch blocks cat check diff explain extract find forget format grow log ls mkdir mv pack put redo repack rm rmattr salvage setattr sync undo"
+# Words that bin/install doesn't take, and what is said of them.
+REFUSED = [
+    ("--remove", "--remove isn't taken"), ("new there", "a second word: there"), ("new --uninstall", "a second word: --uninstall"),
+    ("--uninstall there new", "a second word: new"), ("--uninstall --help", "--help isn't taken"),
+]
 # The words of a command line, of which the last one is completed, and what it may become.
 COMPLETED = [
     ("lfsed ", f"--help --version {COMMANDS} help"),
@@ -137,14 +142,26 @@ def is_installed(counts, prefix):
     ended = subprocess.run([prefix / "bin/lfsed", "--version"], stdout=subprocess.PIPE, text=True)
     counts.check("installed", ended.stdout == "lfsed 0.2.0\n", ended)
     (prefix / "share/man/man1/other.1").write_bytes(b"")
-    kept = prefix / "share/lfsed/python/lfsed/__pycache__"
-    kept.mkdir()
-    (kept / "lfsed.pyc").write_bytes(b"")
+    for place in "lfsed/__pycache__", "build", "lfsed.egg-info":
+        kept = prefix / "share/lfsed/python" / place
+        kept.mkdir()
+        (kept / "file").write_bytes(b"")
     ended = subprocess.run([HOME / "bin/install", "--uninstall", prefix], capture_output=True)
     counts.check("uninstall", (ended.returncode, ended.stdout, ended.stderr) == (0, b"", b""), ended)
     counts.check("uninstalled", files_below(prefix) == {"share/man/man1/other.1"}, files_below(prefix))
     left = [place for place in ("share/lfsed", "share/cmake/lfsed", "share/doc/lfsed") if (prefix / place).exists()]
     counts.check("uninstalled: folders", not left, left)
+
+
+def is_refused(counts, folder):
+    """Words that bin/install doesn't take are named, and nothing is installed or taken away."""
+    (folder / "there/share/man/man1").mkdir(parents=True)
+    (folder / "there/share/man/man1/lfsed.1").write_bytes(b"")
+    for words, said in REFUSED:
+        ended = subprocess.run([HOME / "bin/install", *words.split(" ")], cwd=folder, capture_output=True, text=True)
+        is_said = ended.stderr.startswith(f"bin/install: {said}\nUsage: bin/install")
+        counts.check(f"install {words}", (ended.returncode, ended.stdout) == (2, "") and is_said, ended)
+        counts.check(f"install {words}: files", files_below(folder / "there") == {"share/man/man1/lfsed.1"} and not (folder / "new").exists())
 
 
 def main():
@@ -156,9 +173,10 @@ def main():
             is_same = (folder / "made" / name).read_bytes() == (HOME / name).read_bytes()
             counts.check(name, is_same, "bin/manual makes another one")
         is_installed(counts, folder / "prefix")
-        for words, status in ("--help", 0), ("-h", 0), ("--remove", 2):
+        for words in "--help", "-h":
             ended = subprocess.run([HOME / "bin/install", words], capture_output=True, text=True)
-            counts.check(f"install {words}", ended.returncode == status and "Usage: bin/install" in ended.stdout + ended.stderr, ended)
+            counts.check(f"install {words}", (ended.returncode, ended.stderr) == (0, "") and ended.stdout.startswith("Usage: bin/install"), ended)
+        is_refused(counts, folder)
         place = folder / "place"
         (place / "src").mkdir(parents=True)
         (place / "fw.img").write_bytes(b"")

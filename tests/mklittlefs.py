@@ -24,6 +24,11 @@ CALLS = [
     ("-c data -b 0512 a.img", "--block 512 --size 65536"),
     ("-c data -b +04096 -p 0256 a.img", "--block 4096 --size 65536 --inline-max 256"),
     ("-c -d a.img", "--block 4096 --size 65536"),
+    ("--create data --page 256 --block 4096 --size 131072 a.img", "--block 4096 --size 131072 --inline-max 256"),
+    ("--create=data a.img --page=2048 --block=8192 --size=0x40000", "--block 8192 --size 0x40000 --inline-max 2048"),
+    ("--debug 5 a.img -b 512 --create data -s 64k", "--block 512 --size 64k"),
+    ("--size 64k -cdata -b512 --debug=5 --all-files -- a.img", "--block 512 --size 64k"),
+    ("--create -d --block 512 a.img", "--block 512 --size 65536"),
 ]
 # Words that are refused, and what is said of them.
 REFUSED = [
@@ -36,6 +41,14 @@ REFUSED = [
     ("-c none a.img", "none: no folder is there"),
     ("-c -s 64k data a.img", "no DIR stands behind -c, but -s; a folder of that name is ./-s"),
     ("-u -b data a.img", "no DIR stands behind -u, but -b; a folder of that name is ./-b"),
+    ("--create data --list a.img", "just one of -c, -u and -l has to be said"),
+    ("--create data a.img --size", "no value stands behind --size"),
+    ("--create", "no value stands behind --create"),
+    ("--create --list a.img", "no DIR stands behind --create, but --list; a folder of that name is ./--list"),
+    ("--from-file list -c data a.img", "--from-file isn't taken"),
+    ("--sizes=64 -c data a.img", "--sizes isn't taken"),
+    ("--list=yes a.img", "--list takes no value"),
+    ("-V", "-V isn't taken"),
 ]
 
 
@@ -74,7 +87,8 @@ def creates(room):
         said = room.makes(words, as_lfsed).splitlines()
         block = int(as_lfsed.split(" ")[1])
         most = int(as_lfsed.partition("--inline-max ")[2] or 1_022)
-        ignored = [f"{SAID}ignored: -d 5"] if words.startswith("-d 5") else []
+        ignored = [f"{SAID}ignored: {word}5" for word in ("-d ", "--debug ", "--debug=") if f"{word}5" in words]
+        ignored = [line.replace("=", " ") for line in ignored]
         room.counts.check(f"{words}: said", said == [*ignored, SAID + NEEDED.format(block, 32, min(most, block // 8, 1_022))], said)
     said = room.makes("-c data a.img", "--size 65536", 64, LFSED_NAME_MAX="64")
     room.counts.check("LFSED_NAME_MAX", "name_max 64" in said, said)
@@ -96,7 +110,18 @@ def unpacks_and_lists(room):
         room.counts.check(f"-u {folder}", ended == (0, "", "") and found == {"config", "www", "www/two words"} | more, (ended, found))
         room.counts.check(f"-u {folder}: contents", (room.place / folder / "config").read_text() == "wifi=on\n")
     room.counts.check("-u: a file of two names", (room.place / "other name").read_text() == "old")
-    room.counts.check("-l", room.run(SCRIPT, "-l a.img") == room.run(PROGRAM, "ls a.img"))
+    for words in "-l a.img", "--list a.img", "a.img --block=4096 --list":
+        room.counts.check(words, room.run(SCRIPT, words) == room.run(PROGRAM, "ls a.img"))
+    ended = room.run(SCRIPT, "--unpack=longer a.img")
+    room.counts.check("--unpack", ended == (0, "", "") and (room.place / "longer/config").read_text() == "wifi=on\n", ended)
+
+
+def tells_of_itself(room):
+    """Which lfsed is run, and the words that are taken."""
+    version = room.run(PROGRAM, "--version")[1].strip()
+    room.counts.check("--version", room.run(SCRIPT, "--version") == (0, f"mklittlefs ({version})\n", ""))
+    short, long = room.run(SCRIPT, "-h"), room.run(SCRIPT, "--help")
+    room.counts.check("--help", short == long and short[1].startswith("Usage: mklittlefs ") and short[0] == 0, long)
 
 
 def writes_through_no_link(room):
@@ -164,7 +189,7 @@ def leaves_out(room):
     (data / "link").symlink_to("www")
     (room.place / "away").symlink_to("data")
     all_else = {"/.git", "/.git/config", "/link/.DS_Store", "/www/.DS_Store"}
-    for words, more in ("-c data", set()), ("-c data -a", all_else), ("-c away", set()):
+    for words, more in ("-c data", set()), ("-c data -a", all_else), ("-c data --all-files", all_else), ("-c away", set()):
         said = room.run(SCRIPT, f"{words} a.img")[2]
         found = {line[13:] for line in room.run(PROGRAM, "ls a.img")[1].splitlines()}
         plain = {"/", "/config", "/link", "/link/two words", "/www", "/www/two words"}
@@ -202,7 +227,7 @@ def is_found_elsewhere(room):
 def main():
     subprocess.run([HOME / "bin/lfsed", "--help"], stdout=subprocess.DEVNULL, check=True)
     counts = Counts()
-    for scene in creates, unpacks_and_lists, writes_through_no_link, refuses, is_found_elsewhere, leaves_out, copies, is_interrupted:
+    for scene in creates, unpacks_and_lists, tells_of_itself, writes_through_no_link, refuses, is_found_elsewhere, leaves_out, copies, is_interrupted:
         with tempfile.TemporaryDirectory() as name:
             scene(Room(counts, pathlib.Path(name)))
     return counts.end()

@@ -7,11 +7,12 @@ import pathlib
 import tempfile
 import threading
 from types import TracebackType
-from typing import Dict, Iterator, List, Optional, Type, Union
+from typing import IO, Any, BinaryIO, Dict, Iterator, List, Literal, Optional, Sequence, TextIO, Tuple, Type, Union, overload
 
-from . import _faults, _texts
-from ._program import File, ImagePath, Word, bytes_of, is_taken, run
-from ._records import Change, Difference, Row, Summary
+from . import _faults, _files, _texts
+from ._program import File, ImagePath, Word, bytes_of, is_taken, notes, run
+from ._records import BlockRange, BlockSum, Change, Difference, Place, Row, Summary
+from ._tree import Tree, is_plain
 
 Number = Union[int, str]
 
@@ -54,10 +55,14 @@ class Image:
         taken = options(block=block or self.block, device=self.device, offset=self.offset, older=self.older, **more)
         return run(command, taken, [self.path, *words], statuses=(0, 1) if command == "diff" else (0,))
 
-    def _past(self, command: str, *words: Word, given: bytes = b"", **more: Union[None, bool, Word]) -> bytes:
-        """What a command prints that goes by the journal."""
+    def _must_be_a_file(self) -> None:
+        """Refuses to change an image within a file."""
         if self.offset is not None:
             raise ValueError("an image within a file is only read: repack makes a file of it alone, and that is changed")
+
+    def _past(self, command: str, *words: Word, given: bytes = b"", **more: Union[None, bool, Word]) -> bytes:
+        """What a command prints that goes by the journal."""
+        self._must_be_a_file()
         return run(command, options(block=self.block, older=self.older, **more), [self.path, *words], given)
 
     def _must_be_latest(self) -> None:
@@ -101,9 +106,136 @@ class Image:
             raise _faults.fault(1, 30, "NotFound", [f"{os.fspath(self.path)}: {at}: nothing is there"])
         return found
 
+    def stat(self, path: ImagePath) -> Row:
+        """What stands at a path, with its size, attributes and whether it is a directory.
+
+        >>> image = format("st.img", block=512, count=16)
+        >>> image.write("/a", b"hello")
+        >>> image.stat("/a").size, image.stat("/").is_directory
+        (5, True)
+        """
+        return self.rows(path)[0]
+
+    def exists(self, path: ImagePath) -> bool:
+        """Whether something stands at a path.
+
+        >>> image = format("ex.img", block=512, count=16)
+        >>> image.exists("/"), image.exists("/a")
+        (True, False)
+        """
+        return self._stat_if_any(path) is not None
+
+    def is_dir(self, path: ImagePath) -> bool:
+        """Whether a directory stands at a path."""
+        found = self._stat_if_any(path)
+        return found is not None and found.is_directory
+
+    def _stat_if_any(self, path: ImagePath) -> Optional[Row]:
+        """What stands at a path, None if nothing does."""
+        try:
+            return self.stat(path)
+        except _faults.Refusal as fault:
+            if fault.name in ("NotFound", "NotADirectory"):
+                return None
+            raise
+
+    def _rows_of_directory(self, path: ImagePath) -> List[Row]:
+        """What stands at the path of a directory and below it."""
+        rows = self.rows(path)
+        if not rows[0].is_directory:
+            raise _faults.fault(1, 32, "NotADirectory", [f"{os.fspath(self.path)}: {rows[0].path}: is a file"])
+        return rows
+
+    def listdir(self, path: ImagePath = "/") -> List[str]:
+        """The names in a directory, in its order.
+
+        >>> image = format("li.img", block=512, count=16)
+        >>> image.write("/etc/id", b"7", parents=True)
+        >>> image.listdir(), image.listdir("/etc")
+        (['etc'], ['id'])
+        """
+        at, *below = self._rows_of_directory(path)
+        return [_name(row.path) for row in below if _parent(row.path) == at.path]
+
+    def walk(self, path: ImagePath = "/") -> Iterator[Tuple[str, List[str], List[str]]]:
+        """Each directory from a path on, before those in it: its path, the names of its directories and those of its files. As with
+        `os.walk` a directory isn't entered whose name is taken out of the list.
+
+        >>> image = format("wa.img", block=512, count=16)
+        >>> image.write("/etc/id", b"7", parents=True)
+        >>> list(image.walk())
+        [('/', ['etc'], []), ('/etc', [], ['id'])]
+        """
+        at, *below = self._rows_of_directory(path)
+        held: Dict[str, List[Row]] = {}
+        for row in below:
+            held.setdefault(_parent(row.path), []).append(row)
+        return _walked(at.path, held)
+
     def read(self, path: ImagePath) -> bytes:
         """The contents of a file."""
         return self._ask("cat", path)
+
+    @overload
+    def open(self, path: ImagePath, mode: Literal["r", "w"] = "r", *, encoding: str = "utf-8", newline: Optional[str] = None) -> TextIO: ...
+
+    @overload
+    def open(self, path: ImagePath, mode: Literal["rb", "wb"], *, encoding: str = "utf-8", newline: Optional[str] = None) -> BinaryIO: ...
+
+    @overload
+    def open(self, path: ImagePath, mode: str, *, encoding: str = "utf-8", newline: Optional[str] = None) -> IO[Any]: ...
+
+    def open(self, path: ImagePath, mode: str = "r", *, encoding: str = "utf-8", newline: Optional[str] = None) -> IO[Any]:
+        """A file object, to read ("r" text, "rb" bytes) or to put the file anew ("w", "wb"). All is read at once; the file is put when
+        the object is closed. Nothing is put if the `with` block raises something, or the object is dropped and never closed.
+
+        >>> image = format("op.img", block=512, count=16)
+        >>> with image.open("/a", "w") as file:
+        ...     _ = file.write("hello")
+        >>> with image.open("/a") as file:
+        ...     file.read()
+        'hello'
+        """
+        if mode in _files.READS:
+            return _files.reading(self.read(path), mode, encoding, newline)
+        if mode not in _files.WRITES:
+            raise ValueError(f"a file is opened by r, rb, w or wb, and not by {mode}")
+        self._must_be_latest()
+        self._must_be_a_file()
+        return _files.writing(lambda contents: self.write(path, contents), mode, encoding, newline)
+
+    @overload
+    def blocks(self, *, sums: Literal[False] = False) -> List[BlockRange]: ...
+
+    @overload
+    def blocks(self, *, sums: Literal[True]) -> List[BlockSum]: ...
+
+    @overload
+    def blocks(self, *, sums: bool) -> Union[List[BlockRange], List[BlockSum]]: ...
+
+    def blocks(self, *, sums: bool = False) -> Union[List[BlockRange], List[BlockSum]]:
+        """What the blocks hold, in their order; with `sums` how many each path takes, in the order of paths.
+
+        >>> image = format("bl.img", block=512, count=16)
+        >>> image.blocks()
+        [BlockRange(kind='directory', path='/', first=0, last=1), BlockRange(kind='free', path=None, first=2, last=15)]
+        >>> image.blocks(sums=True)
+        [BlockSum(kind='directory', path='/', count=2), BlockSum(kind='free', path=None, count=14)]
+        """
+        return _texts.sums(self._ask("blocks", sum=True)) if sums else _texts.ranges(self._ask("blocks"))
+
+    def salvage(self, folder: File) -> List[str]:
+        """Makes a new folder with all that can still be read, also if the image doesn't mount. Answers what is told of an image that
+        lost nothing, in most cases no line; raises ImageFault if something is lost, and what was saved stays.
+
+        >>> image = format("sa.img", block=512, count=16)
+        >>> image.write("/a", b"hello")
+        >>> image.salvage("saved")
+        []
+        >>> pathlib.Path("saved/a").read_bytes()
+        b'hello'
+        """
+        return notes("salvage", options(block=self.block, offset=self.offset), [self.path, folder])
 
     def attributes(self, path: ImagePath) -> Dict[int, bytes]:
         """The attributes of what stands at a path: values by their kinds.
@@ -235,6 +367,25 @@ class Image:
         self._change("sync", folder, path, inline_max=self.inline_max)
 
 
+def _name(path: str) -> str:
+    """The last name of a path."""
+    return path.rpartition("/")[2]
+
+
+def _parent(path: str) -> str:
+    """The path of the directory above."""
+    return path.rpartition("/")[0] or "/"
+
+
+def _walked(path: str, held: Dict[str, List[Row]]) -> Iterator[Tuple[str, List[str], List[str]]]:
+    """What `walk` gives of a directory, by what each directory holds."""
+    rows = held.get(path, [])
+    directories = [_name(row.path) for row in rows if row.is_directory]
+    yield path, directories, [_name(row.path) for row in rows if not row.is_directory]
+    for name in directories:
+        yield from _walked(f"{path.rstrip('/')}/{name}", held)
+
+
 @contextlib.contextmanager
 def _told_of(path: str) -> Iterator[None]:
     """What the system refuses within is told of this path."""
@@ -246,12 +397,27 @@ def _told_of(path: str) -> Iterator[None]:
 
 class Batch:
     """Changes of an image that are gathered, and made in one run where the `with` block ends. A batch is entered once. Within its block
-    threads may share it: the changes have the order of the calls."""
+    threads may share it: the changes have the order of the calls.
+
+    What `parents` and `recursive` add goes by what the image and the batch hold at that call, and is a change for each path: one
+    change of all needs a batch with `one`, which is the default.
+
+    >>> image = format("p.img", block=512, count=32)
+    >>> with image.batch() as batch:
+    ...     batch.write("/etc/net/id", b"7", parents=True)
+    ...     batch.mkdir("/etc/net", parents=True)
+    ...     batch.rename("/etc/net", "/net")
+    ...     batch.remove("/etc", recursive=True)
+    >>> [row.path for row in image.rows()]
+    ['/', '/net', '/net/id']
+    """
 
     def __init__(self, image: Image, one: bool):
         self._image, self._one = image, one
         self._lock, self._is_entered = threading.Lock(), False
-        self._lines: List[str] = []
+        self._steps: List[Tuple[str, List[bytes]]] = []
+        # What stands where after these steps, from the first call on that asks for it.
+        self._tree: Optional[Tree] = None
         # The paths that are put, each by the number that names the file with its contents.
         self._paths: List[str] = []
         self._room: Optional[tempfile.TemporaryDirectory[str]] = None
@@ -275,7 +441,7 @@ class Batch:
 
     def _carry_out(self, folder: str) -> None:
         """Makes the changes, whose contents are in a folder."""
-        script = "".join(f"{line}\n" for line in self._lines)
+        script = "".join(f"{_texts.line_of_script(step, words)}\n" for step, words in self._steps)
         try:
             self._image._change("batch", given=script.encode("ascii"), one=self._one, inline_max=self._image.inline_max)
         except _faults.Fault as fault:
@@ -286,7 +452,27 @@ class Batch:
         """Adds a step."""
         with self._lock:
             self._folder()
-            self._lines.append(_texts.line_of_script(step, map(bytes_of, words)))
+            self._append(step, [bytes_of(word) for word in words])
+
+    def _append(self, step: str, words: List[bytes]) -> None:
+        """Adds a step, and follows it in the tree."""
+        self._steps.append((step, words))
+        if self._tree:
+            self._tree.follow(step, words)
+
+    def _append_each(self, step: str, paths: Sequence[bytes]) -> None:
+        """Adds a step for each path."""
+        for path in paths:
+            self._append(step, [path])
+
+    def _read_tree(self) -> Tree:
+        """What stands where after the steps so far."""
+        if not self._tree:
+            rows = self._image.rows()[1:]
+            self._tree = Tree(self._image.path, {bytes_of(row.path): row.is_directory for row in rows})
+            for step, words in self._steps:
+                self._tree.follow(step, words)
+        return self._tree
 
     def _folder(self) -> pathlib.Path:
         """The folder of contents that are to be put."""
@@ -294,23 +480,36 @@ class Batch:
             raise ValueError("a batch takes changes within its `with` block alone")
         return pathlib.Path(self._room.name)
 
-    def write(self, path: ImagePath, contents: bytes) -> None:
-        """Puts a file, in place of one of this path."""
+    def write(self, path: ImagePath, contents: bytes, *, parents: bool = False) -> None:
+        """Puts a file, in place of one of this path; with `parents` the directories above it too."""
         word = bytes_of(path)
         with self._lock:
+            self._folder()
+            missing = self._read_tree().missing_above(word) if parents and is_plain(word) else []
             held, told = self._folder() / str(len(self._paths)), word.decode("utf-8", "surrogateescape")
             self._paths.append(told)
             with _told_of(told):
                 held.write_bytes(contents)
-            self._lines.append(_texts.line_of_script("put", [word, bytes_of(held)]))
+            self._append_each("mkdir", missing)
+            self._append("put", [word, bytes_of(held)])
 
-    def mkdir(self, path: ImagePath) -> None:
-        """Makes a directory."""
-        self._add("mkdir", path)
+    def mkdir(self, path: ImagePath, *, parents: bool = False) -> None:
+        """Makes a directory; with `parents` those above it too, and one that is there is no fault."""
+        word = bytes_of(path)
+        with self._lock:
+            self._folder()
+            if not parents or word != b"/" and not is_plain(word):
+                self._append("mkdir", [word])
+            elif word != b"/":
+                tree = self._read_tree()
+                self._append_each("mkdir", tree.missing_above(word) + ([] if tree.is_directory(word) else [word]))
 
-    def remove(self, path: ImagePath) -> None:
-        """Removes a file or an empty directory."""
-        self._add("rm", path)
+    def remove(self, path: ImagePath, *, recursive: bool = False) -> None:
+        """Removes a file or an empty directory; with `recursive` a directory with all that is below it."""
+        word = bytes_of(path)
+        with self._lock:
+            self._folder()
+            self._append_each("rm", self._read_tree().whole(word)[::-1] if recursive and is_plain(word) else [word])
 
     def rename(self, old: ImagePath, new: ImagePath) -> None:
         """Moves a file, or a directory with all that is below it; nothing is replaced."""
@@ -348,6 +547,20 @@ def pack(
     limits = options(name_max=name_max, file_max=file_max, attr_max=attr_max, inline_max=inline_max, new=new)
     run("pack", options(block=block, count=count, size=size, least=least) + limits, [path, folder])
     return Image(path, block, inline_max=inline_max)
+
+
+def find(path: File) -> List[Place]:
+    """Where in a file images begin, as in a dump of a flash.
+
+    >>> image = format("fi.img", block=512, count=16)
+    >>> image.write("/a", b"hello")
+    >>> _ = pathlib.Path("flash.bin").write_bytes(bytes(1_024) + pathlib.Path("fi.img").read_bytes())
+    >>> find("flash.bin")
+    [Place(offset=1024, version='2.0', block=512, count=16, size=8192, fault=None)]
+    >>> Image("flash.bin", 512, offset=1_024, device=True).read("/a")
+    b'hello'
+    """
+    return _texts.places(run("find", [], [path]))
 
 
 def repack(

@@ -47,10 +47,22 @@ def is_taken(word: bytes) -> bool:
     return b"\0" not in word
 
 
-def run(command: str, options: List[Word], words: List[Word], given: bytes = b"", statuses: Tuple[int, ...] = (0,)) -> bytes:
-    """What a run prints; raises its fault where it doesn't end well."""
+def ended(
+    command: str, options: List[Word], words: List[Word], given: bytes = b"", statuses: Tuple[int, ...] = (0,),
+) -> subprocess.CompletedProcess[bytes]:
+    """A run that has ended; raises its fault if it doesn't end well."""
     line = [os.fsencode(program()), b"--json", command.encode(), *map(bytes_of, options), b"--", *map(bytes_of, words)]
-    ended = subprocess.run(line, input=memoryview(given), capture_output=True, check=False)
-    if ended.returncode and not (ended.returncode in statuses and not ended.stderr):
-        raise _faults.fault(ended.returncode, *_texts.fault(ended.stderr))
-    return ended.stdout
+    run_of = subprocess.run(line, input=memoryview(given), capture_output=True, check=False)
+    if run_of.returncode and not (run_of.returncode in statuses and not run_of.stderr):
+        raise _faults.fault(run_of.returncode, *_texts.fault(run_of.stderr))
+    return run_of
+
+
+def run(command: str, options: List[Word], words: List[Word], given: bytes = b"", statuses: Tuple[int, ...] = (0,)) -> bytes:
+    """What a run prints; raises its fault if it doesn't end well."""
+    return ended(command, options, words, given, statuses).stdout
+
+
+def notes(command: str, options: List[Word], words: List[Word]) -> List[str]:
+    """What a run says that ends well; raises its fault if it doesn't."""
+    return _texts.fault(ended(command, options, words).stderr)[2]

@@ -48,6 +48,48 @@ class Row:
 
 
 @dataclass(frozen=True)
+class Place:
+    """An image in a larger file: its first byte, the disk version, the size and number of blocks and the size in bytes that it states,
+    and the number and name of the fault for which it doesn't mount, None if it does."""
+
+    offset: int
+    version: str
+    block: int
+    count: int
+    size: int
+    fault: Optional[str] = None
+
+    @property
+    def mounts(self) -> bool:
+        """Whether the image mounts."""
+        return self.fault is None
+
+
+@dataclass(frozen=True)
+class BlockRange:
+    """What blocks hold, from the first number to the last: a part of a "directory" or of a "file" at a path, or nothing if "free"."""
+
+    kind: str
+    path: Optional[str]
+    first: int
+    last: int
+
+    @property
+    def count(self) -> int:
+        """How many blocks these are."""
+        return self.last - self.first + 1
+
+
+@dataclass(frozen=True)
+class BlockSum:
+    """How many blocks the "directory" or "file" at a path takes, with all that is below it; or how many are "free"."""
+
+    kind: str
+    path: Optional[str]
+    count: int
+
+
+@dataclass(frozen=True)
 class Difference:
     """A row that went ("-"), that came ("+"), or that is a file of other contents ("~"), as it is now. Where an image's limits are
     others, they stand with the root."""

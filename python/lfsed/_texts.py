@@ -6,8 +6,9 @@ import os
 import re
 from typing import Any, Dict, Iterable, List, Optional, Tuple
 
-from ._records import Change, Difference, Limits, Row, Summary
+from ._records import BlockRange, BlockSum, Change, Difference, Limits, Place, Row, Summary
 
+PLACE = re.compile(r"0x([0-9a-f]+)  version (\S+)  block ([0-9]+)  count ([0-9]+)  ([0-9]+) bytes  (.*)")
 MARKS = {"removed": "-", "added": "+", "contents": "~", "limits": "~"}
 
 
@@ -39,6 +40,11 @@ def path_of(said: Dict[str, Any]) -> str:
     if "path" in said:
         return str(said["path"])
     return bytes.fromhex(said["path_hex"]).decode("utf-8", "surrogateescape")
+
+
+def path_if_any(said: Dict[str, Any]) -> Optional[str]:
+    """The path that an object says, None if it says none."""
+    return path_of(said) if "path" in said or "path_hex" in said else None
 
 
 def row(said: Dict[str, Any]) -> Row:
@@ -83,6 +89,30 @@ def changes(printed: bytes) -> List[Change]:
 def changed(printed: bytes) -> List[int]:
     """The numbers of blocks that `adopt` prints."""
     return [said["changed"] for said in objects(printed)]
+
+
+def ranges(printed: bytes) -> List[BlockRange]:
+    """The blocks that `blocks` prints."""
+    return [BlockRange(said["kind"], path_if_any(said), said["first"], said["last"]) for said in objects(printed)]
+
+
+def sums(printed: bytes) -> List[BlockSum]:
+    """The sums that `blocks --sum` prints."""
+    return [BlockSum(said["kind"], path_if_any(said), said["blocks"]) for said in objects(printed)]
+
+
+def place(line: str) -> Place:
+    """The place that a line of `find` says."""
+    found = PLACE.fullmatch(line)
+    if not found:
+        raise ValueError(f"a line of find that isn't known: {line}")
+    block, count, size = map(int, found.group(3, 4, 5))
+    return Place(int(found[1], 16), found[2], block, count, size, None if found[6] == "mounts" else found[6])
+
+
+def places(printed: bytes) -> List[Place]:
+    """The places that `find` prints, one a line."""
+    return [place(line) for line in printed.decode("utf-8").splitlines()]
 
 
 def summary(printed: bytes) -> Summary:
