@@ -1,6 +1,7 @@
 """A picture of the flash: each block a cell, which has the colour of what it holds."""
 from __future__ import annotations
 
+import itertools
 from typing import Dict, Iterable, Iterator, List, Tuple
 
 from ._page import Markup, join, listed, path_shown, tag
@@ -11,7 +12,7 @@ KINDS = {
     "directory": ("directory", "directories", "of directories (metadata pairs)"), "file": ("file", "files", "of files"),
     "free": ("free", "free", "free"), "erased": ("erased", "erased", "erased"), "unknown": ("not known", "not known", "not known"),
 }
-# From how many pieces on neighbours of one kind are one piece, of how many of them the paths are said, and how long one may be.
+# How many pieces are drawn, of how many things of one piece the paths are said, and how long one of them may be.
 MOST_PIECES, MOST_NAMED, LONGEST_PATH = 6_000, 3, 200
 # Up to how many columns the cells are set apart by lines, and how far from a block its ring is beyond.
 MOST_LINED, RADIUS = 64, 5
@@ -53,22 +54,42 @@ def shortened(path: str) -> str:
     return found if len(found) <= LONGEST_PATH else f"{found[:half]} … {found[-half:]}"
 
 
-def groups(extents: List[Extent]) -> Iterator[List[Extent]]:
-    """The extents, each by itself, or if there are many, neighbours of one kind together."""
-    group: List[Extent] = []
+def neighbours(extents: List[Extent]) -> List[List[Extent]]:
+    """The extents, those of one kind together that follow each other."""
+    return [[*group] for _, group in itertools.groupby(extents, lambda extent: extent.kind)]
+
+
+def of_rows(extents: List[Extent], columns: int) -> List[List[Extent]]:
+    """The extents, those of one kind together that begin in one row."""
+    found: Dict[Tuple[int, str], List[Extent]] = {}
     for extent in extents:
-        if group and (len(extents) <= MOST_PIECES or group[0].kind != extent.kind):
-            yield group
-            group = []
-        group.append(extent)
-    if group:
-        yield group
+        found.setdefault((extent.first // columns, extent.kind), []).append(extent)
+    return [*found.values()]
+
+
+def groups(extents: List[Extent], columns: int) -> List[List[Extent]]:
+    """The extents in the pieces that are drawn: each by itself, or if there are too many, neighbours together, or those of a row."""
+    if len(extents) <= MOST_PIECES:
+        return [[extent] for extent in extents]
+    found = neighbours(extents)
+    return found if len(found) <= MOST_PIECES else of_rows(extents, columns)
+
+
+def spans(group: List[Extent]) -> List[Tuple[int, int]]:
+    """The runs of blocks of a group."""
+    found: List[Tuple[int, int]] = []
+    for extent in group:
+        is_next = found and found[-1][1] + 1 == extent.first
+        first = found.pop()[0] if is_next else extent.first
+        found.append((first, extent.last))
+    return found
 
 
 def title_of(group: List[Extent]) -> str:
     """What is told of a group where the pointer rests on it."""
     one, more, _ = KINDS[group[0].kind]
-    where, paths = span(group[0].first, group[-1].last), [shortened(extent.path) for extent in group if extent.path is not None]
+    among = "among " if len(spans(group)) > 1 else ""
+    where, paths = among + span(group[0].first, group[-1].last), [shortened(extent.path) for extent in group if extent.path is not None]
     if len(paths) < 2:
         return f"{where}: {' '.join([one, *paths])}"
     rest = [f"{len(paths) - MOST_NAMED} more"] if len(paths) > MOST_NAMED else []
@@ -77,9 +98,8 @@ def title_of(group: List[Extent]) -> str:
 
 def cells(extents: List[Extent], columns: int) -> Markup:
     """The cells of all blocks."""
-    return tag("g", *(
-        tag("path", tag("title", title_of(group)), class_=group[0].kind, d=outline(group[0].first, group[-1].last, columns))
-        for group in groups(extents)), class_="cells")
+    pieces = [(group, "".join(outline(*each, columns) for each in spans(group))) for group in groups(extents, columns)]
+    return tag("g", *(tag("path", tag("title", title_of(group)), class_=group[0].kind, d=drawn) for group, drawn in pieces), class_="cells")
 
 
 def grid(count: int, columns: int) -> Markup:
