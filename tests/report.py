@@ -25,6 +25,7 @@ os.environ["LFSED"] = str(PROGRAM)
 sys.dont_write_bytecode = True
 
 import lfsed  # noqa: E402
+from lfsed._page import tag  # noqa: E402
 from lfsed._picture import picture  # noqa: E402
 from lfsed._survey import Extent, blocks_named, runs  # noqa: E402
 
@@ -100,7 +101,8 @@ def is_listed(counts, what, page, reader):
         wanted.append([
             path, "directory" if is_directory else "file", f"{size:,}", str(many), str(len(blocks)),
             f"blocks {', '.join(spans)}" if blocks else "its entry", "74: 6c61746572 “later” (5 bytes)" if path == "/config" else ""])
-    counts.check(f"{what}: rows", page.rows("The tree") == wanted, [pair for pair in zip(page.rows("The tree"), wanted) if pair[0] != pair[1]])
+    found = page.rows("The tree")
+    counts.check(f"{what}: rows", found == wanted, [pair for pair in zip(found, wanted) if pair[0] != pair[1]])
     counts.check(f"{what}: paths", sorted(row[0] for row in wanted) == sorted([*TREE, *DIRECTORIES]))
 
 
@@ -117,8 +119,8 @@ def plain(counts):
     wanted = [
         ["File", "plain.img, 32,768 bytes"], ["SHA-256", hashlib.sha256(held).hexdigest()], ["Blocks", "64 of 512 bytes"],
         ["Full", f"{100 * used / COUNT:.1f} %: {used} of 64 blocks; {SIZE * reader.free():,} bytes are free"],
-        ["Holds", "3 directories, 5 files"], ["Disk version", "2.0"], ["Longest name", "40 bytes"],
-        ["Longest file", "2,147,483,647 bytes"], ["Longest attribute", "1,022 bytes"],
+        ["Holds", "3 directories, 5 files"], ["Disk version", "2.0"], ["Limit on names", "40 bytes"],
+        ["Limit on files", "2,147,483,647 bytes"], ["Limit on attributes", "1,022 bytes"],
     ]
     counts.check("plain: summary", page.rows("Summary") == wanted, page.rows("Summary"))
     settings = dict(row[:2] for row in page.rows("What a device needs"))
@@ -176,17 +178,19 @@ def hostile(counts):
         batch.write("/</script><script>alert(2)<", b"</script>")
         batch.set_attribute("/\"&'", 1, b"<script>alert(5)</script>")
         batch.set_attribute("/\"&'", 2, b"\x00\"'>")
-    shutil.copy(name, "<i>old")
+    shutil.copy(name, "<i>\x1bold")
     image.remove("/\"&'")
-    lfsed.Image("<i>old", SIZE).remove("/日本")
-    page = reported(counts, "hostile", name, "--other", "<i>old")
+    lfsed.Image("<i>\x1bold", SIZE).remove("/日本")
+    page = reported(counts, "hostile", name, "--other", "<i>\x1bold")
     wanted = {"/" + (as_shown or of) for of, as_shown in HOSTILE.items() if of != "\"&'"} | {"/", "/<", "/</script>"[:2]}
     found = {row[0] for row in page.rows("The tree")}
     counts.check("hostile: paths", found == wanted | {"/</script><script>alert(2)<"}, found ^ wanted)
     counts.check("hostile: title", page.all("h1")[0].text() == name and page.all("title")[0].text().startswith(name))
-    removed = [row for row in page.rows("Since <i>old") if row[1:3] == ["removed", "/\"&'"]]
+    removed = [row for row in page.rows("Since <i>\\x1bold") if row[1:3] == ["removed", "/\"&'"]]
     values = "01: 3c7363726970743e616c6572742835293c2f7363726970743e “<script>alert(5)</script>” (25 bytes)02: 0022273e (4 bytes)"
     counts.check("hostile: values", [row[-1] for row in removed] == [values], removed)
+    made = tag("p", "<\x07", x="\"'<>&")
+    counts.check("hostile: an attribute", made == "<p x=\"&quot;&#x27;&lt;&gt;&amp;\">&lt;\\x07</p>", made)
     damage(name, SIZE)
     page = reported(counts, "hostile and damaged", name, status=3, told=told_by_program("check", "-b", "512", name))
     counts.check("hostile and damaged: lines", name in page.all("li")[0].text(), page.all("li")[0].text())
@@ -216,7 +220,8 @@ def damaged(counts):
     held = pathlib.Path("bad.img").read_bytes()
     erased = {at for at in range(COUNT) if not held[at * SIZE:(at + 1) * SIZE].strip(b"\xff")}
     counts.check("damaged: erased", {*page.drawn("erased")} == erased and {*page.drawn("unknown")} == {*range(COUNT)} - erased)
-    counts.check("damaged: fault", "Doesn’t mount: 3 NoValidCommit" in page.all("main")[0].text() and told.splitlines()[1][7:] in page.held)
+    is_shown = told.splitlines()[1].removeprefix("lfsed: ") in [each.text() for each in page.all("li")]
+    counts.check("damaged: fault", "Doesn’t mount: 3 NoValidCommit" in page.all("main")[0].text() and is_shown)
     saved = {path: size for path, size in page.rows("What can be saved")}
     is_kept = all(saved.get(path) == f"{len(TREE[path]):,}" for path in TREE if not path.startswith("/logs/old"))
     counts.check("damaged: saved", is_kept and page.section("The tree") is None, saved)
@@ -278,6 +283,13 @@ def command_line(counts):
         ended = run("report", "line.img", "-o", name)
         counts.check(f"into {name}", ended == (2, f"lfsed: {name}: is an image that is read, or its journal\n", b""), ended)
         counts.check(f"into {name}: is kept", pathlib.Path(name).read_bytes() == before)
+    os.link("line.img", "other name")
+    lfsed.format("bare.img", block=SIZE, count=16)
+    pathlib.Path("bare.img.lfsj").unlink()
+    for words in ["line.img", "-o", "other name"], ["bare.img", "-o", "bare.img.lfsj"], ["bare.img", "--other=line.img", "-o", "./line.img"]:
+        ended = run("report", *words)
+        counts.check(" ".join(words), ended == (2, f"lfsed: {words[-1]}: is an image that is read, or its journal\n", b""), ended)
+    counts.check("no journal is made", not pathlib.Path("bare.img.lfsj").exists())
     ended = run("report", "line.img", "-o", "line.html")
     counts.check("into a file", ended == (0, "", b"") and pathlib.Path("line.html").read_bytes() == run("report", "line.img")[2], ended)
     for words in ["none.img"], ["line.img", "--other", "none.img"]:
@@ -367,7 +379,8 @@ def browser(counts):
             continue
         inner = said["width"]
         counts.check(f"{what}: no wider", inner - 20 <= said["wide"] <= inner <= width + 4, (said["wide"], inner))
-        counts.check(f"{what}: styled, and nothing is refused", (said["styled"], said["refused"], said["scripts"]) == ("1152px", [], 2), said)
+        is_right = (said["styled"], said["refused"], said["scripts"]) == ("1152px", [], 2)
+        counts.check(f"{what}: styled, and nothing is refused", is_right, said)
         page = Page(pathlib.Path(f"{name}.html").read_text())
         paths = [row[0] for row in page.rows("The tree" if page.section("The tree") else "What can be saved")]
         is_sorted = all(in_order(paths, *each) and len(each[2]) == len(paths) for each in said["sorted"])

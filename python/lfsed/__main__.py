@@ -42,8 +42,10 @@ def lines_of(fault: Fault) -> List[str]:
 
 
 def is_one_of(path: str, others: List[Optional[str]]) -> bool:
-    """Whether a file is one of others, or the journal of one."""
+    """Whether a file is one of others, or the journal of one, which may not be there yet."""
     files = [name for other in others if other is not None for name in (other, f"{other}.lfsj", f"{os.path.realpath(other)}.lfsj")]
+    if any(os.path.realpath(path) == os.path.realpath(name) for name in files):
+        return True
     return os.path.exists(path) and any(os.path.exists(name) and os.path.samefile(path, name) for name in files)
 
 

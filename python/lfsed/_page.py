@@ -29,7 +29,7 @@ table { min-width: min(100%, 22rem); border-collapse: collapse; font-variant-num
 caption { text-align: left; color: var(--dim); padding-bottom: .3rem }
 th, td { border-bottom: 1px solid var(--line); padding: .25rem .75rem .25rem 0; text-align: left; vertical-align: top; font-weight: normal }
 thead th { font-weight: 600; white-space: nowrap; vertical-align: bottom }
-td code, th code { display: inline-block; min-width: 7rem; max-width: 34rem }
+td code, th code { display: inline-block; min-width: 7rem; max-width: 42rem }
 .number { text-align: right }
 button { font: inherit; color: inherit; background: none; border: 0; padding: 0; cursor: pointer; text-decoration: underline dotted }
 th[aria-sort="ascending"] button::after { content: " \\25b2" }

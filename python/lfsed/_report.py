@@ -87,8 +87,8 @@ def facts(survey: Survey) -> Markup:
         held = f"{counted(found.directories, 'directory', 'directories')}, {counted(found.files, 'file')}"
         lines += [
             ("Full", fullness(found)), ("Holds", held), ("Disk version", found.version),
-            ("Longest name", counted(found.limits.name, "byte")), ("Longest file", counted(found.limits.file, "byte")),
-            ("Longest attribute", counted(found.limits.attribute, "byte")),
+            ("Limit on names", counted(found.limits.name, "byte")), ("Limit on files", counted(found.limits.file, "byte")),
+            ("Limit on attributes", counted(found.limits.attribute, "byte")),
         ]
     filled = bar(survey.extents, survey.count) if survey.count else Markup("")
     rows = [[Cell(name), Cell(held)] for name, held in lines]
