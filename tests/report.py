@@ -1,7 +1,7 @@
 #!/usr/bin/env python3
 """Reports of images, as the module for Python writes them: of used ones, of one with hostile names, of damaged ones and of one that a
 device wrote. Python's parser reads each page; its rows are compared with a tree that is known, and its picture with what a reader apart
-from the program finds. Where Chromium is there it shows pages, sorts their tables, and says whether they are too wide."""
+from the program finds. If Chromium is there it shows pages, sorts their tables, and says whether they are too wide."""
 import hashlib
 import html
 import json
@@ -286,7 +286,8 @@ def command_line(counts):
     os.link("line.img", "other name")
     lfsed.format("bare.img", block=SIZE, count=16)
     pathlib.Path("bare.img.lfsj").unlink()
-    for words in ["line.img", "-o", "other name"], ["bare.img", "-o", "bare.img.lfsj"], ["bare.img", "--other=line.img", "-o", "./line.img"]:
+    for name, *words in ["other name", "line.img"], ["bare.img.lfsj", "bare.img"], ["./line.img", "bare.img", "--other", "line.img"]:
+        words += ["-o", name]
         ended = run("report", *words)
         counts.check(" ".join(words), ended == (2, f"lfsed: {words[-1]}: is an image that is read, or its journal\n", b""), ended)
     counts.check("no journal is made", not pathlib.Path("bare.img.lfsj").exists())
@@ -342,7 +343,7 @@ def shows(*words):
         command = [
             CHROMIUM, "--headless", "--no-sandbox", "--disable-gpu", "--disable-dev-shm-usage", "--no-first-run", f"--user-data-dir={room}",
             "--enable-logging=stderr", "--virtual-time-budget=20000", *words]
-        return subprocess.run(command, capture_output=True, timeout=60, check=False)
+        return subprocess.run(command, capture_output=True, timeout=120, check=False)
 
 
 def driven(name):

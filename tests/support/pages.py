@@ -7,8 +7,8 @@ import re
 
 VOID = "meta",
 ELEMENTS = {
-    "body", "button", "caption", "code", "div", "footer", "g", "h1", "h2", "head", "html", "li", "main", "meta", "p", "path", "rect", "script",
-    "section", "strong", "style", "svg", "table", "tbody", "td", "th", "thead", "title", "tr", "ul",
+    "body", "button", "caption", "code", "div", "footer", "g", "h1", "h2", "head", "html", "li", "main", "meta", "p", "path", "rect",
+    "script", "section", "strong", "style", "svg", "table", "tbody", "td", "th", "thead", "title", "tr", "ul",
 }
 ATTRIBUTES = {
     "aria-hidden", "aria-label", "aria-sort", "charset", "class", "content", "d", "data-key", "height", "http-equiv", "lang", "name",
@@ -67,7 +67,7 @@ class Page(html.parser.HTMLParser):
         return self.root.all(name)
 
     def section(self, title):
-        """The section of a heading; None where there is none."""
+        """The section of a heading; None if there is none."""
         return next((each for each in self.all("section") if each.all("h2")[0].text() == title), None)
 
     def rows(self, title):
