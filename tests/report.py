@@ -40,12 +40,12 @@ HOSTILE = {
 }
 CHROMIUM = next(filter(None, map(shutil.which, ("chromium", "chromium-browser"))), None)
 WIDTHS = 360, 1_100
+ENVIRONMENT = dict(os.environ, PYTHONPATH=str(HOME / "python"), PYTHONDONTWRITEBYTECODE="1")
 
 
 def run(*words):
     """Runs the module; answers its status, what it told, and what it printed."""
-    env = dict(os.environ, PYTHONPATH=str(HOME / "python"), PYTHONDONTWRITEBYTECODE="1")
-    ended = subprocess.run([sys.executable, "-m", "lfsed", *words], env=env, capture_output=True, check=False)
+    ended = subprocess.run([sys.executable, "-m", "lfsed", *words], env=ENVIRONMENT, capture_output=True, check=False)
     return ended.returncode, ended.stderr.decode(), ended.stdout
 
 
@@ -298,6 +298,11 @@ def command_line(counts):
         counts.check(" ".join(words), ended[0] == 4 and "none.img: No such file" in ended[1] and not ended[2], ended)
     ended = run("report", "line.img", "-o", "none/line.html")
     counts.check("into no folder", ended == (4, "lfsed: none/line.html: No such file or directory\n", b""), ended)
+    with open("/dev/full", "wb") as full:
+        command = [sys.executable, "-m", "lfsed", "report", "line.img"]
+        ended = subprocess.run(command, stdout=full, stderr=subprocess.PIPE, env=ENVIRONMENT, check=False)
+        wanted = 4, b"lfsed: standard output: No space left on device\n"
+        counts.check("into a full device", (ended.returncode, ended.stderr) == wanted, ended)
     ended = run("report", "line.img", "--block", "many")
     counts.check("no size", ended[0] == 2 and "invalid value 'many'" in ended[1] and not ended[2], ended)
     wanted = 3, told_by_program("check", "-b", "300", "line.img"), b""

@@ -85,7 +85,7 @@ def main(words: Optional[List[str]] = None) -> int:
         tell(["standard output: nobody reads it"])
         return 4
     except OSError as why:
-        tell([f"{why.filename}: {why.strerror}" if why.filename is not None else str(why)])
+        tell([f"{why.filename or 'standard output'}: {why.strerror}" if why.strerror else str(why)])
         return 4
 
 

@@ -155,10 +155,7 @@ def is_size(size: int) -> bool:
 
 def size_of(path: File, block: Optional[str]) -> int:
     """The size of the blocks of an image that doesn't mount: what the program was told, or else what is stated."""
-    if block in (None, "auto"):
-        return stated(path)
-    word = str(block).lower()
-    return int(word[2:], 16) if word.startswith("0x") else int(word)
+    return stated(path) if block is None or block == "auto" else int(block)
 
 
 def blocks_of(path: File, block: int, count: int) -> Iterator[bytes]:
