@@ -192,12 +192,20 @@ ROWS = (
 )
 
 
+def in_a_folder(run, size):
+    """What a run costs in a folder of its own. `rm` takes it away, since Python's own way recurses into folders in each other."""
+    folder = tempfile.mkdtemp()
+    try:
+        return run(pathlib.Path(folder), size)
+    finally:
+        subprocess.run(["rm", "-rf", folder], check=True)
+
+
 def measure(name, run, sizes, most):
     """One row: the times at its sizes, how they grow beside them, and the mark."""
     found = []
     for size in sizes:
-        with tempfile.TemporaryDirectory() as folder:
-            found.append(run(pathlib.Path(folder), size))
+        found.append(in_a_folder(run, size))
         if found[-1][0] is None:
             print(f"{name}: {size}: more than {MOST_SECONDS} s")
             MISSED.append(name)
