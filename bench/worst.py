@@ -4,7 +4,6 @@ a reader down. Each row has the processor time at several sizes, and how it grow
 they do. The mark is the time at the last size. Ends with 1 if one is missed. With words only the rows are run whose names have one."""
 import os
 import pathlib
-import random
 import resource
 import shutil
 import subprocess
@@ -111,8 +110,8 @@ def emptied_wide(room, count):
 def put_in_one(room, count):
     """The cost of putting so many files into one directory, as one change."""
     (room / "f").write_bytes(b"x")
-    spent(room, "format", "--block", SIZE, "--count", count // 40, "a.img")
-    (room / "steps").write_text("".join(f"put /{n:07} f\n" for n in random.Random(1).sample(range(count), count)))
+    spent(room, "format", "--block", SIZE, "--count", count // 16, "a.img")
+    (room / "steps").write_text("".join(f"put /{n:07} f\n" for n in range(count)))
     return spent(room, "batch", "--one", "--block", SIZE, "a.img", "steps")
 
 
