@@ -135,38 +135,36 @@ def superblocks(room, count):
     return spent(room, "find", "a.img")
 
 
+def shifting(items, first, following):
+    """A block of many entries, before which others are made and deleted again and again."""
+    draft = Draft(1).add(items)
+    for n in range(1_000):
+        draft.add(file(first + n, b"%04d" % n))
+    while len(draft.bytes) < LARGEST - 96:
+        draft.add(created(first) + file(first, b"a")[:1] + deleted(first))
+    return draft.add(following).close_at(16).bytes
+
+
 def rewritten(room, count):
     """The cost of checking so many bytes of blocks full of entries that are made and deleted at one index."""
-    draft = Draft(1)
-    items = superblock(LARGEST, count // LARGEST)
-    draft.add(items)
-    while len(draft.bytes) < LARGEST - 64:
-        draft.add(created(1) + file(1, b"a")[:1] + deleted(1))
-    full = draft.close_at(16).bytes
-    blocks = {0: full[:LARGEST]}
-    body = Draft(1)
-    while len(body.bytes) < LARGEST - 96:
-        body.add(created(0) + file(0, b"a")[:1] + deleted(0))
-    for n in range(2, count // LARGEST, 2):
-        following = Draft(1)
-        following.bytes, following.before = body.bytes, body.before
-        if n + 2 < count // LARGEST:
-            following.add(tail(HARD, (n + 2, n + 3)))
-        blocks[n] = following.close_at(16).bytes
+    last = count // LARGEST - 2
+    blocks = {0: shifting(superblock(LARGEST, count // LARGEST), 1, tail(HARD, (2, 3)))}
+    for n in range(2, last + 1, 2):
+        blocks[n] = shifting([], 0, tail(HARD, (n + 2, n + 3)) if n < last else [])
     (room / "a.img").write_bytes(image(LARGEST, count // LARGEST, blocks))
     return spent(room, "check", "--block", LARGEST, "a.img", statuses=(0, 3))
 
 
 def one_broken_chain(room, count):
-    """The cost of saving an image of 16 MiB in which so many files name one chain that is broken."""
+    """The cost of saving an image of 16 MiB in which so many files name one chain that is broken, each with another length."""
     many, blocks = 150, {}
     parts = [range(at, min(at + many, count)) for at in range(0, count, many)]
     blocks[0] = log(1, superblock(SIZE, 4_096) + tail(HARD, (2, 3)))
     for at, names in enumerate(parts, 1):
-        items = [item for number, name in enumerate(names) for item in chained(number, b"%07d" % name, 4_000, 8_000_000)]
+        items = [item for number, name in enumerate(names) for item in chained(number, b"%07d" % name, 4_000, 7_900_000 - name)]
         blocks[2 * at] = log(1, items + (tail(HARD, (2 * at + 2, 2 * at + 3)) if at < len(parts) else []))
-    for block in range(1_000, 4_001):
-        blocks[block] = (block - 1).to_bytes(4, "little") * 12
+    for block in range(2_050, 4_001):
+        blocks[block] = (block - 1 if block > 2_050 else 0xFFFF_FFFF).to_bytes(4, "little") * 12
     (room / "a.img").write_bytes(image(SIZE, 4_096, blocks))
     return spent(room, "salvage", "--block", SIZE, "a.img", "made", statuses=(0, 3))
 
@@ -184,7 +182,7 @@ ROWS = (
     ("sync of one directory's files with an empty folder", emptied_wide, WIDE, 0.5),
     ("batch --one of puts into one directory", put_in_one, WIDE, 2.5),
     ("repack of one directory's files", repacked_wide, (128_000, 256_000, 512_000), 3.2),
-    ("diff of two equal trees of nested directories", compared_nested, (2_048, 4_096, 8_192), 0.5),
+    ("diff of two equal trees of nested directories", compared_nested, (2_000, 4_000, 8_000), 0.5),
     ("find in superblocks after each other", superblocks, (MIB, 2 * MIB, 4 * MIB, 16 * MIB), 2),
     ("check of entries made and deleted at one index", rewritten, (4 * MIB, 8 * MIB, 16 * MIB), 1),
     ("salvage of files that name one broken chain", one_broken_chain, (2_048, 4_096, 8_192), 2),
