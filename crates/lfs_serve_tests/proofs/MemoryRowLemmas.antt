@@ -52,9 +52,13 @@ entry_noted (inl a) = a
 entry_noted (inr (inl a)) = a
 entry_noted (inr (inr a)) = a
 
+-- a host in memory notes that a call that reads what is under a name was refused
+abbrev pub Notes : Scene → MemoryHost → Type 0
+Notes scene new = (name : List ℕ) → HasRefusedEntry scene name → new.has_refused ≡ true
+
 -- why a folder of a host in memory isn't read
 refuses_by : (tree : HostTree) (dir : List ℕ) (scene : Scene) (new : MemoryHost) (fault : FolderFault) → HasNoGap tree
-    → ((name : List ℕ) → tree name ≢ OtherThere) → ((name : List ℕ) → HasRefusedEntry scene name → new.has_refused ≡ true) → RefusesHostTree tree dir fault
+    → ((name : List ℕ) → tree name ≢ OtherThere) → Notes scene new → RefusesHostTree tree dir fault
     → BlamesHost (Some tree) dir scene fault → RefusesInMemory tree dir new fault
 refuses_by tree dir scene new HostEntry complete known noted (path, below, other, there) blamed = absurd (known (host_name dir path) there)
 refuses_by tree dir scene new CannotRead complete known noted why (inl (path, below, refused)) = inl (noted (host_name dir path) refused)
@@ -65,7 +69,7 @@ refuses_by tree dir scene new HostName complete known noted why blamed = tt
 refuses_by tree dir scene new Memory complete known noted why blamed = tt
 
 pub refuses_in_memory : {T : Type 0} (tree : HostTree) (dir : List ℕ) (scene : Scene) (new : MemoryHost) (rows : Result T FolderFault) → HasNoGap tree
-    → ((name : List ℕ) → tree name ≢ OtherThere) → ((name : List ℕ) → HasRefusedEntry scene name → new.has_refused ≡ true) → IfErr rows (λ fault. RefusesHostTree tree dir fault)
+    → ((name : List ℕ) → tree name ≢ OtherThere) → Notes scene new → IfErr rows (λ fault. RefusesHostTree tree dir fault)
     → IfErr rows (λ fault. BlamesHost (Some tree) dir scene fault) → IfErr rows (λ fault. RefusesInMemory tree dir new fault)
 refuses_in_memory tree dir scene new (Ok rows) complete known noted why blamed = tt
 refuses_in_memory tree dir scene new (Err fault) complete known noted why blamed = refuses_by tree dir scene new fault complete known noted why blamed
