@@ -160,7 +160,13 @@ question_tells by_device size image form Log question is =
 
 -- ---- runs
 
--- a step that ran on what it was handed, as it was read; nothing was printed behind it
+-- what was read of an image that is held whole is noted as it is
+pub read_noted : (manner : Manner) (size : ℕ) (old new whole read : List ℕ) → new ≡ read → whole ≡ old → IsReadBy manner.view size whole read
+    → IsReadBy manner.view size old new
+read_noted manner size old new whole read noted held reads =
+    subst (IsReadBy manner.view size old) (sym noted) (subst (λ (xs : List ℕ). IsReadBy manner.view size xs read) held reads)
+
+-- a step that ran on what it was handed, as it was read; nothing was printed after it
 pub step_ran : (step : Step) (manner : Manner) (size : ℕ) (name : List ℕ) (old new : Scene) (h : HandedBytes) (image : List ℕ)
     (fault : Option Fault) (after : Option (List ℕ)) (outcome : Outcome) → IsHanded (kind_of step) (start_of manner.view) name old h
     → refused_by manner (later_read step size h.image) ≡ None → TellsVersion step manner.view.by_device size h.image → IsReadBy manner.view size h.image image

@@ -10,11 +10,10 @@ use Rattle.lfs_exchange.specs.declared.step_kind.StepKind.{StepKind}
 use Rattle.lfs_host.specs.Files.{IsTarget}
 use Rattle.lfs_host.specs.Scene.{Scene}
 use Rattle.lfs_open.specs.Later.{refused_by}
-use Rattle.lfs_open.specs.ReadBy.{IsReadBy}
 use Rattle.lfs_serve.specs.LaterRead.{later_read}
 use Rattle.lfs_serve.specs.Program.{IsUnwritten, RunsStep}
 use Rattle.lfs_open.proofs.StopLemmas.{stopped_at, refused_so}
-use Rattle.lfs_serve.proofs.StepLemmas.{ends_behind, ends_later, ends_refused, ends_unhanded, ends_wanting, leaves_at, spares_at, step_ran}
+use Rattle.lfs_serve.proofs.StepLemmas.{ends_behind, ends_later, ends_refused, ends_unhanded, ends_wanting, leaves_at, read_noted, spares_at, step_ran}
 use Rattle.lfs_report.specs.Stop.{stopped_by}
 use Rattle.lfs_serve.proofs.stepping.stepped_in.Goals as goal
 
@@ -66,12 +65,13 @@ returns-in_err-stored-in-Ok-clause-ended g c =
     let outcome = c.in-Ok.ensures.ran.0 in
     let runs : RunsStep step manner size name old by_stored None outcome =
     step_ran step manner size name old by_stored h c.note_unfinished-image.result.items None by_taken.printed outcome is none c.requires.tells
-    (subst (IsReadBy manner.view size h.image) (sym c.note_unfinished-image.ensures)
-    (subst (λ (xs : List ℕ). IsReadBy manner.view size xs c.in_ok-read.read.items) (c.unfinished_in-held.ensures ∙ c.lines_taken_over-whole.ensures) c.in_ok-read.ensures.read))
+    (read_noted manner size h.image c.note_unfinished-image.result.items _ c.in_ok-read.read.items c.note_unfinished-image.ensures
+    (c.unfinished_in-held.ensures ∙ c.lines_taken_over-whole.ensures) c.in_ok-read.ensures.read)
     c.in-Ok.ensures.ran.1 c.in-Ok.ensures.ran.2 c.in-Ok.ensures.ran.3 c.stored.ensures.kept.1 tt in
     let fault = c.in_err-stored-in-Ok.field-0.0 in
     let at_is : c.as_str.result.now ≡ target = search rules in
-    let unwritten : IsUnwritten old by_stored name fault = (c.as_str.result.now, subst (IsTarget old.files name) (sym at_is) c.requires.target, c.in_err-stored-in-Ok.ensures.refused) in
+    let unwritten : IsUnwritten old by_stored name fault =
+    (c.as_str.result.now, subst (IsTarget old.files name) (sym at_is) c.requires.target, c.in_err-stored-in-Ok.ensures.refused) in
     let spares = spares_at fault c.args.handed.kind (kind_of step) by_stored old.files by_taken.files by_stored.files name target
     c.as_str.result.now outcome c.in-Ok.outcome c.requires.target at_is files c.requires.kind c.in-Ok.ensures.ran.4
     c.in_err-stored-in-Ok.ensures.files in
@@ -98,8 +98,8 @@ returns-in-Ok-clause-ended g c =
     let outcome = c.in-Ok.ensures.ran.0 in
     let runs : RunsStep step manner size name old by_stored None outcome =
     step_ran step manner size name old by_stored h c.note_unfinished-image.result.items None by_taken.printed outcome is none c.requires.tells
-    (subst (IsReadBy manner.view size h.image) (sym c.note_unfinished-image.ensures)
-    (subst (λ (xs : List ℕ). IsReadBy manner.view size xs c.in_ok-read.read.items) (c.unfinished_in-held.ensures ∙ c.lines_taken_over-whole.ensures) c.in_ok-read.ensures.read))
+    (read_noted manner size h.image c.note_unfinished-image.result.items _ c.in_ok-read.read.items c.note_unfinished-image.ensures
+    (c.unfinished_in-held.ensures ∙ c.lines_taken_over-whole.ensures) c.in_ok-read.ensures.read)
     c.in-Ok.ensures.ran.1 c.in-Ok.ensures.ran.2 c.in-Ok.ensures.ran.3 c.stored.ensures.kept.1 tt in
     let leaves = leaves_at c.args.handed.kind (kind_of step) old.files by_taken.files by_stored.files name target c.as_str.result.now outcome
     c.in-Ok.outcome c.requires.target (search rules) files c.requires.kind c.in-Ok.ensures.ran.4 c.in_ok-stored-in-Ok.ensures.files in
@@ -127,8 +127,8 @@ returns-clause-ended g c =
     let outcome = c.in-Err.ensures.ran.0 in
     let runs : RunsStep step manner size name old by_looked (Some fault) outcome =
     step_ran step manner size name old by_looked h c.note_unfinished-image.result.items (Some fault) by_taken.printed outcome is none c.requires.tells
-    (subst (IsReadBy manner.view size h.image) (sym c.note_unfinished-image.ensures)
-    (subst (λ (xs : List ℕ). IsReadBy manner.view size xs c.in_ok-read.read.items) (c.unfinished_in-held.ensures ∙ c.lines_taken_over-whole.ensures) c.in_ok-read.ensures.read))
+    (read_noted manner size h.image c.note_unfinished-image.result.items _ c.in_ok-read.read.items c.note_unfinished-image.ensures
+    (c.unfinished_in-held.ensures ∙ c.lines_taken_over-whole.ensures) c.in_ok-read.ensures.read)
     c.in-Err.ensures.ran.1 c.in-Err.ensures.ran.2 c.in-Err.ensures.ran.3 looked.2 (c.stopped.ensures.blamed c.in-Err.ensures.blamed) in
     let files = looked.0 ∙ c.taken.ensures.kept.0 in
     elim c.stopped.ensures.ended [
