@@ -40,10 +40,10 @@ CUT = "has a semicolon, which stands between words in CMake"
 REFUSED = {
     "lfsed_image(a OUTPUT a.img COUNT 8)": "lfsed_image(a): FOLDER has to be said",
     "lfsed_image(a FOLDER fw COUNT 8)": "lfsed_image(a): OUTPUT has to be said",
-    "lfsed_image(a FOLDER fw OUTPUT a.img)": "lfsed_image(a): just one of COUNT, SIZE and LEAST",
-    "lfsed_image(a FOLDER fw OUTPUT a.img COUNT 8 LEAST)": "lfsed_image(a): just one of COUNT, SIZE and LEAST",
+    "lfsed_image(a FOLDER fw OUTPUT a.img)": "lfsed_image(a): exactly one of COUNT, SIZE and LEAST",
+    "lfsed_image(a FOLDER fw OUTPUT a.img COUNT 8 LEAST)": "lfsed_image(a): exactly one of COUNT, SIZE and LEAST",
     "lfsed_image(a FOLDER fw OUTPUT a.img COUNT 8 SISE 4)": "lfsed_image(a): words that it doesn't take: SISE;4",
-    "lfsed_image(a FOLDER fw OUTPUT a.img LEAST BLOCK)": "lfsed_image(a): no value stands behind BLOCK",
+    "lfsed_image(a FOLDER fw OUTPUT a.img LEAST BLOCK)": "lfsed_image(a): no value follows BLOCK",
     'lfsed_image(a FOLDER "f;w" OUTPUT a.img COUNT 8)': f"lfsed_image(a): FOLDER {CUT}: f;w",
     "lfsed_image(a FOLDER fw OUTPUT x\\;y/a.img COUNT 8)": f"lfsed_image(a): OUTPUT {CUT}: x;y/a.img",
     'lfsed_image(a FOLDER fw OUTPUT a.img COUNT 8 CHANGES "c;")': f"lfsed_image(a): CHANGES {CUT}: c;",
