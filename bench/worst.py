@@ -14,7 +14,7 @@ from measures import MISSED, end, mark
 from support.folder import PROGRAM
 from support.logs import HARD, SOFT, Draft, chained, created, deleted, directory, file, image, log, superblock, tail
 
-SIZE, LARGEST, MOST_SECONDS = 4_096, 65_536, 300
+SMALLEST, SIZE, LARGEST, MOST_SECONDS = 256, 4_096, 65_536, 300
 
 
 def spent(folder, command, *words, typed=None, statuses=(0,)):
@@ -50,13 +50,13 @@ def nested_folder(place, count):
     os.close(at)
 
 
-def nested_image(room, count):
+def nested_image(room, count, size=SIZE):
     """An image with so many directories in each other."""
-    blocks = {0: log(1, superblock(SIZE, 2 * count + 2) + (directory(1, b"d", (2, 3)) + tail(SOFT, (2, 3)) if count else []))}
+    blocks = {0: log(1, superblock(size, 2 * count + 2) + (directory(1, b"d", (2, 3)) + tail(SOFT, (2, 3)) if count else []))}
     for n in range(1, count + 1):
         pair = (2 * n + 2, 2 * n + 3)
         blocks[2 * n] = log(1, directory(0, b"d", pair) + tail(SOFT, pair) if n < count else [])
-    (room / "a.img").write_bytes(image(SIZE, 2 * count + 2, blocks))
+    (room / "a.img").write_bytes(image(size, 2 * count + 2, blocks))
 
 
 def wide_image(room, count, spare=2):
@@ -128,9 +128,15 @@ def compared_nested(room, count):
     return spent(room, "diff", "--block", SIZE, "a.img", "b.img")
 
 
+def mapped_nested(room, count):
+    """The cost of printing which block holds what of directories in each other."""
+    nested_image(room, count, SMALLEST)
+    return spent(room, "blocks", "--block", SMALLEST, "a.img")
+
+
 def superblocks(room, count):
     """The cost of looking for images in so many bytes of superblocks after each other."""
-    one = log(1, superblock(256, 2))
+    one = log(1, superblock(SMALLEST, 2))
     (room / "a.img").write_bytes((one * (count // len(one) + 1))[:count])
     return spent(room, "find", "a.img")
 
@@ -171,7 +177,7 @@ def one_broken_chain(room, count):
 
 MIB = 2**20
 DEEP, WIDE = (250, 500, 1_000, 2_000), (5_000, 10_000, 20_000)
-# What is measured, at which sizes, with which mark in seconds at the last one.
+# What is measured, at which sizes, with which mark in seconds at the last one, and in MiB if memory has one.
 ROWS = (
     ("mkdir -p of nested directories", made_nested, DEEP, 1.0),
     ("pack of nested directories", of_nested("pack", "--block", "4096", "--count", "COUNT", "a.img", "src", from_folder=True), DEEP, 1.0),
@@ -186,6 +192,7 @@ ROWS = (
     ("find in superblocks after each other", superblocks, (MIB, 2 * MIB, 4 * MIB, 16 * MIB), 2),
     ("check of entries made and deleted at one index", rewritten, (4 * MIB, 8 * MIB, 16 * MIB), 1),
     ("salvage of files that name one broken chain", one_broken_chain, (2_048, 4_096, 8_192), 2),
+    ("blocks of nested directories", mapped_nested, (8_192, 16_384, 32_767), None, 64),
 )
 
 
@@ -198,8 +205,8 @@ def in_a_folder(run, size):
         subprocess.run(["rm", "-rf", folder], check=True)
 
 
-def measure(name, run, sizes, most):
-    """One row: the times at its sizes, how they grow beside them, and the mark."""
+def measure(name, run, sizes, most, most_memory=None):
+    """One row: the times at its sizes, how they grow beside them, and the marks."""
     found = []
     for size in sizes:
         found.append(in_a_folder(run, size))
@@ -210,7 +217,10 @@ def measure(name, run, sizes, most):
     growth = (found[-1][0] / found[0][0]) / (sizes[-1] / sizes[0])
     times = ", ".join(f"{size}: {time:.2f} s {memory:.0f} MiB" for size, (time, memory) in zip(sizes, found))
     print(f"{name}: {times}; grows {growth:.1f} times as its size does", flush=True)
-    mark(f"{name}: seconds", found[-1][0], most)
+    if most is not None:
+        mark(f"{name}: seconds", found[-1][0], most)
+    if most_memory is not None:
+        mark(f"{name}: MiB", found[-1][1], most_memory)
 
 
 def main():

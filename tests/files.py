@@ -10,6 +10,8 @@ import signal
 import subprocess
 import sys
 import tempfile
+import threading
+import time
 
 from support.later import LATER, stated, written
 from support.logs import image
@@ -457,6 +459,26 @@ def pairs_of_runs(files):
     files.check("nothing is left of pairs", not (files.folder / "a.img.new").exists())
 
 
+def a_reader_beside_a_writer(files):
+    """A run that lists an image's changes beside runs that make some reads both files of one state."""
+    files.must(["format", "--block", "512", "--count", "64", "a.img"])
+    until = time.monotonic() + 10
+    writer = threading.Thread(target=lambda: change_until(files, until))
+    writer.start()
+    ended = []
+    while time.monotonic() < until:
+        ended.append(files.run(["log", "--block", "512", "a.img"]))
+    writer.join()
+    wrong = [it for it in ended if it != (0, [])]
+    files.check(f"log beside a writer, {len(ended)} times", ended and not wrong, wrong[:3])
+
+
+def change_until(files, until):
+    """Puts a file again and again up to a time."""
+    while time.monotonic() < until:
+        files.must(["put", "--block", "512", "--keep", "3", "a.img", "/f"], os.urandom(300))
+
+
 SCENES = (
     what_is_no_image,
     output_that_nobody_reads,
@@ -474,6 +496,7 @@ SCENES = (
     journals_that_are_no_files,
     disks_that_refuse,
     pairs_of_runs,
+    a_reader_beside_a_writer,
 )
 
 

@@ -4,9 +4,10 @@ of what a reader apart from the program finds: rows, an image in numbers, blocks
 import hashlib
 import json
 import random
+import subprocess
 import sys
 
-from support.folder import contents, run_scenes
+from support.folder import PROGRAM, contents, run_scenes
 from support.littlefs import Reader
 from support.logs import attribute, directory, file, image, log, superblock, tail, SOFT
 from support.scattering import Scattered, key
@@ -213,6 +214,37 @@ def faults(folder):
     folder.check("behind the command", plain == (1, "lfsed: 30 NotFound\nlfsed: a.img: /x: nothing is there\n", b""), plain)
 
 
+def found_images(folder):
+    """What `find` lists: an image that mounts, and one with another in it that doesn't."""
+    sound = image(SIZE, 8, {0: log(1, superblock(SIZE, 8))})
+    broken = image(1_024, 4, {0: log(1, superblock(1_024, 4) + directory(1, b"d", (2, 3)) + tail(SOFT, (2, 3)))})
+    folder.be(b"\0" * 768 + sound + broken, 0)
+    tells(folder, "found", "find a.img", line_of(at=768, version="2.0", block=512, count=8, bytes=4_096)
+          + line_of(at=768 + 4_096, version="2.0", block=1_024, count=4, bytes=4_096, fault=3, name="NoValidCommit"))
+    folder.be(b"", 512)
+    tells(folder, "nothing found", "find a.img", "")
+
+
+def explained(folder):
+    """What `explain` says of faults: a page each, and the list of all."""
+    root, attribute_ = "The root can't be made, put, moved or removed.", "There is no attribute of that kind to be removed."
+    tells(folder, "a page", "explain 41", line_of(fault=41, name="IsRoot", text=root))
+    tells(folder, "two pages", "explain noattr 41 IsRoot",
+          line_of(fault=39, name="NoAttr", text=attribute_) + line_of(fault=41, name="IsRoot", text=root))
+    plain = [line.split(" ", 2) for line in folder.run("explain")[2].decode().splitlines()]
+    listed = "".join(line_of(fault=int(number), name=name.removesuffix(":"), text=gist) for number, name, gist in plain)
+    for words in "explain --json", "--json explain":
+        ended = folder.run(words)
+        folder.check(words, ended == (0, "", listed.encode()), ended)
+
+
+def words_that_are_no_text(folder):
+    """A word that isn't UTF-8 is refused in an object too."""
+    for front, wanted in ([], b"lfsed: an argument is not UTF-8\n"), (["--json"], b'{"status":2,"text":"lfsed: an argument is not UTF-8\\n"}\n'):
+        ended = subprocess.run([PROGRAM, *front, "ls", b"\xff"], cwd=folder.room.name, capture_output=True, timeout=60)
+        folder.check(f"a word that isn't UTF-8, {front}", (ended.returncode, ended.stderr) == (2, wanted), ended)
+
+
 def refused_words(folder):
     """Words that are refused are told in one object."""
     for words in "--json", "--json rm", "--json nothing", "--json cat --json a.img /x", "--json explain 99":
@@ -226,5 +258,6 @@ def refused_words(folder):
 
 
 sys.exit(run_scenes([
-    worked_lines, odd_paths, scattered_images, differing_images, blocks_held, digests, faults, refused_words,
+    worked_lines, odd_paths, scattered_images, differing_images, blocks_held, digests, faults, found_images, explained, refused_words,
+    words_that_are_no_text,
 ]))

@@ -62,7 +62,7 @@ COMPLETED = [
     ("lfsed fi", "find"),
     ("lfsed find f", "fw.img"),
     ("lfsed find fw.img ", ""),
-    ("lfsed find --", "--device --help"),
+    ("lfsed find --", "--device --help --json"),
     ("lfsed blocks --", "--block --device --help --json --offset --older --sum"),
     ("lfsed blocks --sum f", "fw.img"),
     ("lfsed blocks fw.img ", ""),

@@ -264,6 +264,10 @@ NamesFind named = (rows : List Row) × (named ≡ Some (codes "find", rows))
 abbrev pub LooksIn : Option (Text × List Row) → Text → Type 0
 LooksIn named flash = (rows : List Row) × (named ≡ Some (codes "find", rows)) × HasText rows (codes "flash") flash
 
+-- the form in which a command that is named prints
+abbrev pub form_asked : Option (Text × List Row) → Form
+form_asked named = option_map_or (λ p. form_said p.1) named form.Text
+
 -- it is asked what faults mean
 abbrev pub NamesExplain : Option (Text × List Row) → Type 0
 NamesExplain named = (rows : List Row) × (named ≡ Some (codes "explain", rows))

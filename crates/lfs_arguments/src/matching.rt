@@ -5,17 +5,18 @@ ghost use Rattle.clap.specs.Words.{Text, found_of, rows_of, subcommand_rows_of};
 ghost use Rattle.lfs_grammar.specs.Grammar.{NamesCommand, TakesNoImage};
 ghost use Rattle.lfs_request.specs.Operation.{IsOperationInRange};
 ghost use Rattle.lfs_arguments.specs.Words.{AsksFor, BeginsAt, Explains, IsMissaid, IsUsageError, IsRequest};
-ghost use Rattle.lfs_arguments.specs.Words.{LooksIn, NamesExplain, NamesFind, NamesNoImage, SaysAuto, SaysAutoImage, SaysAutoOther, SaysAutoSource};
+ghost use Rattle.lfs_arguments.specs.Words.{LooksIn, form_asked, NamesExplain, NamesFind, NamesNoImage, SaysAuto, SaysAutoImage, SaysAutoOther, SaysAutoSource};
 ghost use Rattle.lfs_arguments.specs.declared.usage_error.UsageError.TheVariants.{Memory, Unsaid};
 
 use crate::auto_file::AutoFile;
 use crate::auto_sizes::AutoSizes;
 use crate::counting::{block_of, other_block_of};
-use crate::operations::operation_of;
+use crate::operations::{form_of, operation_of};
 use crate::options::{said, text};
 use crate::usage_error::UsageError;
 use crate::viewing::place_said;
 use clap::ArgMatches;
+use lfs_json::Form;
 use lfs_request::Request;
 use std::alloc::Global;
 
@@ -87,6 +88,16 @@ pub fn flash_asked<'a>(matches: &ArgMatches<'a>) -> Option<&'a str>
         options.get_str("flash")
     } else {
         None
+    }
+}
+
+/// The form in which the command that was matched prints.
+pub fn form_asked(matches: &ArgMatches<'_>) -> Form
+    ensures { result ≡ form_asked (subcommand_rows_of matches.now) }
+{
+    match matches.subcommand() {
+        Some((_, options)) => form_of(options),
+        None => Form::Text,
     }
 }
 

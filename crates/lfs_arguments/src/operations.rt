@@ -59,7 +59,7 @@ fn question_of<'a>(
 }
 
 /// The form of what is answered.
-fn form_of(options: &ArgMatches<'_>) -> Form
+pub(crate) fn form_of(options: &ArgMatches<'_>) -> Form
     ensures { result ≡ form_said (rows_of (found_of options.now)) }
 {
     if said(options, "json") {

@@ -24,6 +24,9 @@ use lfs_journal::MAX_JOURNAL_LENGTH;
 use lfs_request::{Fault, OtherFault, Query};
 use std::alloc::Global;
 
+/// How often the files of an image are read again that other runs replace meanwhile.
+const MOST_READINGS: u32 = 1_000;
+
 /// An image's files, as a step is handed them.
 #[derive(Drop)]
 pub struct Handed {
@@ -55,14 +58,62 @@ pub fn taken_up<H: Host>(
     ensures kept { KeepsSeen (H.known host.old) (H.known host.new) }
 {
     let target = aimed(alloc, host, kind, name)?;
-    let image = read_image(alloc, host, kind, place, target.as_str())?;
-    let journal = journal_of(alloc, host, kind, target.as_str())?;
+    let (image, journal) = steady_files(alloc, host, kind, place, target.as_str())?;
     Ok(Handed {
         kind,
         target,
         image,
         journal,
     })
+}
+
+/// The bytes of an image's file, from a place on, and then of its journal. Of files that this run hasn't locked, both are read again as long
+/// as another run replaces the image meanwhile, so that they are of one state.
+fn steady_files<H: Host>(
+    alloc: Global,
+    host: &mut H,
+    kind: StepKind,
+    place: u64,
+    name: &str,
+) -> Result<(Vec<u8>, Vec<u8>), Fault>
+    ensures image { IfOk result (λ read. HandsImage kind place (H.known host.old).files name.now read.0.items) }
+    ensures journal { IfOk result (λ read. HandsJournal kind (H.known host.old).files name.now read.1.items) }
+    ensures tally { HasClaimed (H.known host.old) name.now → KeepsTally (H.known host.old) (H.known host.new) }
+    ensures refused { IfErr result (IsUnreadFor kind (H.known host.new) name.now) }
+    ensures kept { KeepsAll (H.known host.old) (H.known host.new) }
+{
+    let mut read = read_files(alloc, host, kind, place, name)?;
+    for _ in 0..MOST_READINGS {
+        if !is_unlocked(kind) || host.stays(name) {
+            return Ok(read);
+        }
+        read = read_files(alloc, host, kind, place, name)?;
+    }
+    Ok(read)
+}
+
+/// Whether two files are read for a step whose image this run doesn't lock.
+fn is_unlocked(kind: StepKind) -> bool {
+    matches!(kind, StepKind::Recounts)
+}
+
+/// The bytes of an image's file, from a place on, and then of its journal.
+fn read_files<H: Host>(
+    alloc: Global,
+    host: &mut H,
+    kind: StepKind,
+    place: u64,
+    name: &str,
+) -> Result<(Vec<u8>, Vec<u8>), Fault>
+    ensures image { IfOk result (λ read. HandsImage kind place (H.known host.old).files name.now read.0.items) }
+    ensures journal { IfOk result (λ read. HandsJournal kind (H.known host.old).files name.now read.1.items) }
+    ensures tally { HasClaimed (H.known host.old) name.now → KeepsTally (H.known host.old) (H.known host.new) }
+    ensures refused { IfErr result (IsUnreadFor kind (H.known host.new) name.now) }
+    ensures kept { KeepsAll (H.known host.old) (H.known host.new) }
+{
+    let image = read_image(alloc, host, kind, place, name)?;
+    let journal = journal_of(alloc, host, kind, name)?;
+    Ok((image, journal))
 }
 
 /// The file that a name leads to, locked for this run where it is to be changed or replaced.

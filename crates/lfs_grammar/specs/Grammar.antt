@@ -313,7 +313,7 @@ program_commands =
     making_command (codes "format") (count ∷ size ∷ [])
     ∷ making_command (codes "pack") (word (codes "dir") ∷ count ∷ size ∷ flag (codes "least") ∷ inline_max ∷ [])
     ∷ repack
-    ∷ (command (codes "find") (word (codes "flash") ∷ device ∷ [])).top
+    ∷ (command (codes "find") (word (codes "flash") ∷ device ∷ json ∷ [])).top
     ∷ asking (codes "extract") (word (codes "dir") ∷ path_or_root ∷ [])
     ∷ asking (codes "salvage") (word (codes "dir") ∷ [])
     ∷ asking (codes "check") (inline_max ∷ json ∷ [])
@@ -335,7 +335,7 @@ program_commands =
     ∷ reading (codes "forget") []
     ∷ adopt
     ∷ changing (codes "batch") (script ∷ one ∷ inline_max ∷ [])
-    ∷ (command (codes "explain") (faults ∷ [])).top
+    ∷ (command (codes "explain") (faults ∷ json ∷ [])).top
     ∷ []
 
 -- the program with its program_commands

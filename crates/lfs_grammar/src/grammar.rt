@@ -102,7 +102,7 @@ static COMMANDS: [CommandRow; 26] = [
         name: "find",
         about: "List where in a file images begin, with what they state and whether they mount",
         usage: None,
-        arguments: &[Argument::Flash, Argument::Device],
+        arguments: &[Argument::Flash, Argument::Device, Argument::Json],
     },
     CommandRow {
         name: "extract",
@@ -369,7 +369,7 @@ static COMMANDS: [CommandRow; 26] = [
         name: "explain",
         about: "Say what faults mean, and what to do",
         usage: None,
-        arguments: &[Argument::Faults],
+        arguments: &[Argument::Faults, Argument::Json],
     },
 ];
 

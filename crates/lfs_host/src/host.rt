@@ -45,6 +45,11 @@ pub trait Host: Folders + NewFolder {
     fn is_below(&mut self, name: &str, folder: &str) -> bool
         ensures kept { Self.known self.new ≡ Self.known self.old };
 
+    /// Whether the file of an image that was read last has its name still, after waiting for a run that gives new files their names. If that
+    /// can't be known, it counts as if it has. So an image and a journal that were read before are of one state.
+    fn stays(&mut self, name: &str) -> bool
+        ensures kept { Self.known self.new ≡ Self.known self.old };
+
     /// The bytes of a file from a place on, `most` of them and one more at most; none if the place is after its end. A file that is to be
     /// changed is read once its name is claimed.
     fn read(

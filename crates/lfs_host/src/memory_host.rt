@@ -268,6 +268,10 @@ impl Host for MemoryHost {
         below(folder, name).is_some()
     }
 
+    fn stays(&mut self, _name: &str) -> bool {
+        true
+    }
+
     fn read(
         &mut self,
         alloc: Global,

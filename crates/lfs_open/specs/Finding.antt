@@ -10,6 +10,7 @@ use Rattle.lfs_host.specs.Scene.{KeepsInput, Scene}
 use Rattle.lfs_request.specs.declared.fault.Fault.{Fault}
 use Rattle.lfs_request.specs.declared.fault.Fault.TheVariants.{CannotWrite, Refused}
 use Rattle.lfs_find.specs.Found.{AreFound}
+use Rattle.lfs_json.specs.declared.form.Form.{Form}
 use Rattle.lfs_open.specs.FoundText.{found_text}
 use Rattle.lfs_find.specs.declared.found.Found.{Found}
 
@@ -26,14 +27,14 @@ PrintsText (Some (Refused refusal)) old new text =
     (refusal ≡ Memory) × ((n : ℕ) × (n ≤ length text) × Appends old.printed new.printed (take n text))
 PrintsText _ old new text = ⊥
 
--- what is found in the bytes of a file is printed, a line each
-abbrev pub ListsFound : List ℕ → Scene → Scene → Option Fault → Type 0
-ListsFound bytes old new fault = (found : List Found) × AreFound bytes found × PrintsText fault old new (found_text found)
+-- what is found in the bytes of a file is printed in a form, a line each
+abbrev pub ListsFound : Form → List ℕ → Scene → Scene → Option Fault → Type 0
+ListsFound form bytes old new fault = (found : List Found) × AreFound bytes found × PrintsText fault old new (found_text form found)
 
 -- how looking for images in a file ends, by its fault: it isn't read, or memory is wanting, and nothing is printed; or what is found in its
 -- bytes is listed. Nothing else is changed
-abbrev pub EndsFinding : List ℕ → Scene → Scene → Option Fault → Type 0
-EndsFinding name old new fault =
+abbrev pub EndsFinding : Form → List ℕ → Scene → Scene → Option Fault → Type 0
+EndsFinding form name old new fault =
     KeepsInput old new
     × (((why : Fault) × (fault ≡ Some why) × IsUnreadBy (Reading name) new why × (new.printed ≡ old.printed))
-    ⊎ ((bytes : List ℕ) × ReadsFile old.files name most_flash bytes × ListsFound bytes old new fault))
+    ⊎ ((bytes : List ℕ) × ReadsFile old.files name most_flash bytes × ListsFound form bytes old new fault))

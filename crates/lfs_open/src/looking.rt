@@ -14,6 +14,7 @@ use lfs_command::Refusal;
 use lfs_exchange::{Output, fault_of_reading, flush};
 use lfs_find::{Found, find_images};
 use lfs_host::Host;
+use lfs_json::Form;
 use lfs_listing::Unsent;
 use lfs_request::Fault;
 use std::alloc::Global;
@@ -21,14 +22,19 @@ use std::alloc::Global;
 /// The most bytes of a file that are looked at: as many as a file may have.
 const MOST_FLASH: u64 = 9_223_372_036_854_775_807;
 
-/// Lists the images that stand in the file of this name on standard output, a line each, as `send_found` sends them. `CannotRead` where the
-/// host refuses to read it, `CannotWrite` where it refuses what is printed. Takes memory.
-pub fn list_images<H: Host>(alloc: Global, host: &mut H, name: &str) -> Result<(), Fault>
-    ensures { EndsFinding name.now (H.known host.old) (H.known host.new) (result_err result) }
+/// Lists the images that stand in the file of this name on standard output, a line each, as `send_found` sends them. `CannotRead` if the
+/// host refuses to read it, `CannotWrite` if it refuses what is printed. Takes memory.
+pub fn list_images<H: Host>(
+    alloc: Global,
+    host: &mut H,
+    form: Form,
+    name: &str,
+) -> Result<(), Fault>
+    ensures { EndsFinding form name.now (H.known host.old) (H.known host.new) (result_err result) }
 {
     let bytes = flash_bytes(alloc, host, name)?;
     let found = find_images(alloc, &bytes)?;
-    print_found(alloc, host, &found)
+    print_found(alloc, host, form, &found)
 }
 
 /// The bytes of the file in which images are looked for.
@@ -44,11 +50,16 @@ fn flash_bytes<H: Host>(alloc: Global, host: &mut H, name: &str) -> Result<Vec<u
 }
 
 /// Prints the lines of what is found, and hands them on.
-fn print_found<H: Host>(alloc: Global, host: &mut H, found: &[Found]) -> Result<(), Fault>
-    ensures printed { PrintsText (result_err result) (H.known host.old) (H.known host.new) (found_text found.now) }
+fn print_found<H: Host>(
+    alloc: Global,
+    host: &mut H,
+    form: Form,
+    found: &[Found],
+) -> Result<(), Fault>
+    ensures printed { PrintsText (result_err result) (H.known host.old) (H.known host.new) (found_text form found.now) }
     ensures kept { KeepsInput (H.known host.old) (H.known host.new) }
 {
-    match send_found(alloc, found, &mut Output::new(host)) {
+    match send_found(alloc, form, found, &mut Output::new(host)) {
         Ok(()) => flush(host),
         Err(Unsent::CannotWrite) => Err(Fault::CannotWrite),
         Err(Unsent::Memory) => Err(Fault::Refused(Refusal::Memory)),

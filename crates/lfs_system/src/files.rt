@@ -5,12 +5,18 @@ use lfs_sink::{Text, write_text};
 use std::fs::{self, File, Metadata, TryLockError};
 use std::io::{self, ErrorKind, Read};
 use std::os::unix::fs::{MetadataExt, fchown};
+use std::thread::sleep;
+use std::time::Duration;
 
 /// The rights to write of owner, group and others.
 const WRITE_RIGHTS: u32 = 0o222;
 
 /// How often a file is tried for that other runs replace meanwhile.
 const MOST_TRIES: u32 = 1_000;
+
+/// How often, and how long each time, a run waits for another one that gives new files their names. What a killed run left looks the same.
+const MOST_WAITS: u32 = 100;
+const WAIT: Duration = Duration::from_millis(2);
 
 /// What is said of a folder, a device or the like.
 fn is_no_file() -> io::Error {
@@ -86,6 +92,24 @@ fn leads_to(rt: &HostRuntime, name: &str, file: &File) -> io::Result<bool> {
     let named = fs::symlink_metadata(rt, name)?;
     let open = file.metadata()?;
     Ok(named.dev() == open.dev() && named.ino() == open.ino())
+}
+
+/// Whether another run may have given its new journal a name, and not yet its new image: that one waits under its own, and no journal does.
+fn is_between(rt: &HostRuntime, name: &str) -> io::Result<bool> {
+    let new_image = format!(in rt.alloc(); "{name}.new")?;
+    let new_journal = format!(in rt.alloc(); "{name}.lfsj.new")?;
+    Ok(fs::exists(rt, new_image.as_str())? && !fs::exists(rt, new_journal.as_str())?)
+}
+
+/// Whether the name of an image leads to an open file still, after waiting for a run that gives new files their names.
+pub fn stays(rt: &HostRuntime, name: &str, file: &File) -> io::Result<bool> {
+    for _ in 0..MOST_WAITS {
+        if !is_between(rt, name)? {
+            return leads_to(rt, name, file);
+        }
+        sleep(rt, WAIT);
+    }
+    leads_to(rt, name, file)
 }
 
 /// The file of a name, whose lock this run holds then.

@@ -1,7 +1,7 @@
 //! The system as a host.
 
 use crate::files::{
-    locked, must_be_new, name_anew, opened, opened_contents, opened_entry, replace, settle,
+    locked, must_be_new, name_anew, opened, opened_contents, opened_entry, replace, settle, stays,
     sync_folder, written,
 };
 use crate::folders::{is_below, is_other, kind_of, names_in};
@@ -44,6 +44,8 @@ pub struct Terminal<'a> {
     out: Out<Printer<'a, HostRuntime>>,
     /// The image's file, whose lock this run holds.
     image: Option<File>,
+    /// The file of an image that was read last. While it is open, no other file has its number.
+    read: Option<File>,
     /// The first new file, whose lock this run holds: as long as it is there, no other run makes new files of the same image.
     new_file: Option<File>,
     /// Whether a new image is written, and has no place yet.
@@ -69,6 +71,7 @@ impl<'a> Terminal<'a> {
             closed: Closed::new(rt),
             out: Out::new(io::writer(rt)),
             image: None,
+            read: None,
             new_file: None,
             image_waits: false,
             making: None,
@@ -163,14 +166,14 @@ fn target_of(rt: &HostRuntime, alloc: Global, name: &str) -> io::Result<String> 
 
 /// The bytes of a file that says how many it has, `most` of them and one more at most. Room for as many as it says is made at once, so that
 /// they aren't moved as they come.
-fn bytes_in(alloc: Global, file: File, len: u64, most: u64) -> io::Result<Vec<u8>> {
+fn bytes_in(alloc: Global, file: &File, len: u64, most: u64) -> io::Result<Vec<u8>> {
     let mut bytes = Vec::with_capacity(alloc, len.min(most) as usize)?;
     file.take(most.saturating_add(1)).read_to_end(&mut bytes)?;
     Ok(bytes)
 }
 
 /// The bytes of a file from a place on, `most` of them and one more at most; none where the place is behind its end.
-fn bytes_from(alloc: Global, mut file: File, place: u64, most: u64) -> io::Result<Vec<u8>> {
+fn bytes_from(alloc: Global, file: &mut File, place: u64, most: u64) -> io::Result<Vec<u8>> {
     let len = file.metadata()?.len();
     let place = place.min(len);
     if place > 0 {
@@ -179,21 +182,23 @@ fn bytes_from(alloc: Global, mut file: File, place: u64, most: u64) -> io::Resul
     bytes_in(alloc, file, len - place, most)
 }
 
-/// The bytes of the file that a name leads to, from a place on, `most` of them and one more at most.
+/// The bytes of the file that a name leads to, from a place on, `most` of them and one more at most, and the file.
 fn read_bytes(
     rt: &HostRuntime,
     alloc: Global,
     name: &str,
     place: u64,
     most: u64,
-) -> io::Result<Vec<u8>> {
-    bytes_from(alloc, opened(rt, name)?, place, most)
+) -> io::Result<(Vec<u8>, File)> {
+    let mut file = opened(rt, name)?;
+    let bytes = bytes_from(alloc, &mut file, place, most)?;
+    Ok((bytes, file))
 }
 
 /// The bytes of a file whose contents are put, `most` of them and one more at most.
 fn contents_of(rt: &HostRuntime, alloc: Global, name: &str, most: u64) -> io::Result<Vec<u8>> {
     let (file, len) = opened_contents(rt, name)?;
-    bytes_in(alloc, file, len, most)
+    bytes_in(alloc, &file, len, most)
 }
 
 /// Tells that standard input is read where somebody types there, who may not know it.
@@ -214,7 +219,7 @@ fn input_of(rt: &HostRuntime, alloc: Global, most: u64) -> io::Result<Vec<u8>> {
 
 /// The bytes of a file in a folder, `most` of them and one more at most.
 fn entry_bytes(rt: &HostRuntime, alloc: Global, name: &str, most: u64) -> io::Result<Vec<u8>> {
-    bytes_from(alloc, opened_entry(rt, name)?, 0, most)
+    bytes_from(alloc, &mut opened_entry(rt, name)?, 0, most)
 }
 
 /// Why a folder isn't listed.
@@ -326,6 +331,13 @@ impl Host for Terminal<'_> {
         is_below(self.rt, name, folder).unwrap_or(false)
     }
 
+    fn stays(&mut self, name: &str) -> bool {
+        match &self.read {
+            Some(file) => stays(self.rt, name, file).unwrap_or(true),
+            None => true,
+        }
+    }
+
     fn read(
         &mut self,
         alloc: Global,
@@ -333,12 +345,18 @@ impl Host for Terminal<'_> {
         place: u64,
         most: u64,
     ) -> Result<Vec<u8>, ReadFault> {
-        read_bytes(self.rt, alloc, name, place, most).map_err(|error| self.read_fault(error))
+        match read_bytes(self.rt, alloc, name, place, most) {
+            Ok((bytes, file)) => {
+                self.read = Some(file);
+                Ok(bytes)
+            }
+            Err(error) => Err(self.read_fault(error)),
+        }
     }
 
     fn find(&mut self, alloc: Global, name: &str, most: u64) -> Result<Vec<u8>, ReadFault> {
         match read_bytes(self.rt, alloc, name, 0, most) {
-            Ok(bytes) => Ok(bytes),
+            Ok((bytes, _)) => Ok(bytes),
             Err(error) if error.kind() == ErrorKind::NotFound => Ok(Vec::new(alloc)),
             Err(error) => {
                 self.subject = Subject::Journal;

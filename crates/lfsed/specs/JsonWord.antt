@@ -16,7 +16,7 @@ asks_for_json words = is_word (slice_get words 1) (codes "--json")
 abbrev pub is_of_rows : Option Text → Bool
 is_of_rows word =
     is_word word (codes "check") || (is_word word (codes "ls") || (is_word word (codes "blocks") || (is_word word (codes "diff")
-    || (is_word word (codes "log") || is_word word (codes "adopt")))))
+    || (is_word word (codes "log") || (is_word word (codes "adopt") || (is_word word (codes "find") || is_word word (codes "explain")))))))
 
 -- words as the grammar reads them: one in front of the command that asks for JSON goes, or stands after a command that prints rows
 abbrev pub plain_words : List Text → List Text

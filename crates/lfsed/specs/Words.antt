@@ -14,11 +14,12 @@ use Rattle.lfs_arguments.specs.declared.auto_file.AutoFile.{AutoFile}
 use Rattle.lfs_arguments.specs.declared.auto_sizes.AutoSizes.{AutoSizes}
 use Rattle.lfs_grammar.specs.Grammar.{grammar}
 use Rattle.lfs_grammar.specs.Hyphens.{IsRead}
-use Rattle.lfs_arguments.specs.Words.{AsksFor, Explains, IsMissaid, LooksIn, SaysAutoImage, SaysAutoOther}
+use Rattle.lfs_arguments.specs.Words.{AsksFor, Explains, IsMissaid, LooksIn, SaysAutoImage, SaysAutoOther, form_asked}
 use Rattle.lfs_arguments.specs.declared.usage_error.UsageError.{UsageError}
 use Rattle.lfs_exchange.specs.Printing.{HasRefusedOutput, IsFlushed, PrintsBeginning}
 use Rattle.lfs_open.specs.Finding.{EndsFinding}
 use Rattle.lfs_host.specs.Scene.{KeepsAll, KeepsInput, Scene}
+use Rattle.lfs_json.specs.declared.form.Form.{Form}
 use Rattle.lfs_serve.specs.Program.{EndsRequest}
 use Rattle.lfs_open.specs.Stated.{IsStatedSize}
 use Rattle.lfsed.specs.JsonWord.{plain_words}
@@ -83,9 +84,9 @@ AreStated named old new stated =
     (looked : Scene) × Looks (SaysAutoImage named) 0 old looked stated.image
     × Looks (SaysAutoOther named) stated.image looked new stated.other
 
--- images are looked for in a file, and listed, with the status that tells the fault
-abbrev pub EndsFound : Text → Scene → Scene → ℕ → Type 0
-EndsFound flash old new status = (fault : Option Fault) × EndsFinding flash old new fault × (status ≡ status_of fault)
+-- images are looked for in a file, and listed in a form, with the status that tells the fault
+abbrev pub EndsFound : Form → Text → Scene → Scene → ℕ → Type 0
+EndsFound form flash old new status = (fault : Option Fault) × EndsFinding form flash old new fault × (status ≡ status_of fault)
 
 -- how a command that is named with its options ends: by saying what the faults mean that it asks for; behind a look at the files of the
 -- images, as the request that it asks for, or refused where it says none; or for want of memory; or by listing the images of a file. No
@@ -97,7 +98,7 @@ EndsNamed named old new status =
     × (((request : Request) × AsksFor named stated request × EndsRequest request looked new status)
     ⊎ ((usage_error : UsageError) × IsMissaid named stated usage_error × EndsUsedWrongly looked new status)))
     ⊎ EndsForMemory old new status
-    ⊎ ((flash : Text) × LooksIn named flash × EndsFound flash old new status)
+    ⊎ ((flash : Text) × LooksIn named flash × EndsFound (form_asked named) flash old new status)
 
 -- how refused words end: as an error of one of the kinds that the grammar finds with them
 abbrev pub EndsRefused : List Text → Scene → Scene → ℕ → Type 0

@@ -12,27 +12,28 @@ ghost use Rattle.lfs_open.specs.Stated.{IsStatedSize};
 ghost use Rattle.lfs_arguments.specs.declared.usage_error.UsageError.TheVariants.{Memory};
 ghost use Rattle.lfsed.specs.Words.{EndsError, EndsExplained, EndsFound, EndsLine, EndsUsedWrongly, EndsNamed, EndsPrinting, EndsWords, AreStated, ended_with};
 
+use crate::explaining::{list, pages};
 use crate::json_word::plain;
 use crate::tips::retold;
 use crate::usage_line::UsageLine;
 use clap::error::ErrorKind;
 use clap::{ArgMatches, Error};
 use lfs_arguments::{
-    AutoFile, AutoSizes, UsageError, auto_image, auto_other, faults_asked, flash_asked,
+    AutoFile, AutoSizes, UsageError, auto_image, auto_other, faults_asked, flash_asked, form_asked,
     request_said,
 };
 use lfs_command::Refusal;
 use lfs_exchange::{MORE, print, report_of_image};
 use lfs_grammar::{dashed, matched, names_files_plainly};
 use lfs_host::Host;
+use lfs_json::Form;
 use lfs_open::{list_images, stated_size};
 use lfs_report::report_digits;
 use lfs_request::Fault;
 use lfs_serve::served;
-use lfs_texts::{explained, explanations};
+use lfs_texts::explained;
 use std::alloc::{AllocError, Global};
 use std::convert::AsStr;
-use std::fmt::Write;
 
 /// The status of a command line that is refused.
 pub const USAGE: u8 = 2;
@@ -91,11 +92,12 @@ fn carried<H: Host>(alloc: Global, host: &mut H, matches: &ArgMatches<'_>) -> Re
     requires { NamesCommand (subcommand_rows_of matches.now) }
     ensures ended { EndsNamed (subcommand_rows_of matches.now) (H.known host.old) (H.known host.new) (ended_with result) }
 {
+    let form = form_asked(matches);
     if let Some(faults) = faults_asked(matches) {
-        return explain(alloc, host, faults);
+        return explain(alloc, host, form, faults);
     }
     if let Some(flash) = flash_asked(matches) {
-        return Ok(find(alloc, host, flash));
+        return Ok(find(alloc, host, form, flash));
     }
     let stated = stated_for(alloc, host, matches)?;
     match request_said(alloc, matches, stated) {
@@ -105,10 +107,10 @@ fn carried<H: Host>(alloc: Global, host: &mut H, matches: &ArgMatches<'_>) -> Re
 }
 
 /// Lists the images that stand in a file, and answers the status.
-fn find<H: Host>(alloc: Global, host: &mut H, flash: &str) -> u8
-    ensures ended { EndsFound flash.now (H.known host.old) (H.known host.new) result }
+fn find<H: Host>(alloc: Global, host: &mut H, form: Form, flash: &str) -> u8
+    ensures ended { EndsFound form flash.now (H.known host.old) (H.known host.new) result }
 {
-    match list_images(alloc, host, flash) {
+    match list_images(alloc, host, form, flash) {
         Ok(()) => 0,
         Err(fault) => report_of_image(host, flash, fault),
     }
@@ -167,12 +169,17 @@ fn size_in<H: Host>(
     }
 }
 
-/// Says what faults mean, each by a page; lists all of them where none is said. Where one of the words is no fault, it is refused.
-fn explain<H: Host>(alloc: Global, host: &mut H, faults: Option<&[&str]>) -> Result<u8, Fault>
+/// Explains faults, each by a page; lists all of them if none is named. If one of the words isn't a fault, it is refused.
+fn explain<H: Host>(
+    alloc: Global,
+    host: &mut H,
+    form: Form,
+    faults: Option<&[&str]>,
+) -> Result<u8, Fault>
     ensures ended { EndsExplained (H.known host.old) (H.known host.new) (ended_with result) }
 {
     let Some(faults) = faults else {
-        return printed(host, list(alloc)?.as_str());
+        return printed(host, list(alloc, form)?.as_str());
     };
     if let Some(fault) = faults.iter().find(|fault| explained(fault).is_none()) {
         host.report(UsageLine {
@@ -182,33 +189,7 @@ fn explain<H: Host>(alloc: Global, host: &mut H, faults: Option<&[&str]>) -> Res
         });
         return Ok(USAGE);
     }
-    printed(host, pages(alloc, faults)?.as_str())
-}
-
-/// The pages of faults, with an empty line between them. One that is said twice in a row, as by its number and its name, has one page.
-fn pages(alloc: Global, faults: &[&str]) -> Result<String, AllocError> {
-    let mut pages = String::new(alloc);
-    let mut last = None;
-    for found in faults.iter().filter_map(|fault| explained(fault)) {
-        if last == Some(found.number) {
-            continue;
-        }
-        if last.is_some() {
-            pages.push_str("\n")?;
-        }
-        last = Some(found.number);
-        write!(pages, "{} {}\n{}\n", found.number, found.name, found.text)?;
-    }
-    Ok(pages)
-}
-
-/// All faults, a line each.
-fn list(alloc: Global) -> Result<String, AllocError> {
-    let mut list = String::new(alloc);
-    for known in explanations() {
-        write!(list, "{} {}: {}\n", known.number, known.name, known.gist())?;
-    }
-    Ok(list)
+    printed(host, pages(alloc, form, faults)?.as_str())
 }
 
 /// Prints a text, and answers the status of a run that went well.

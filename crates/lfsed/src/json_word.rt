@@ -33,6 +33,8 @@ fn prints_rows(words: &[String]) -> bool
         || has_at(words, 2, "diff")
         || has_at(words, 2, "log")
         || has_at(words, 2, "adopt")
+        || has_at(words, 2, "find")
+        || has_at(words, 2, "explain")
 }
 
 /// Words as the grammar reads them: one in front of the command that asks for JSON is taken away, or stands after a command that prints rows.

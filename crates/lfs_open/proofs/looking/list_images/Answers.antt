@@ -19,7 +19,7 @@ returns g c =
     let bytes = c.in_ok-bytes.bytes.items in
     let found = c.in_ok-found.found.items in
     let are = subst (λ (b : List ℕ). AreFound b found) c.deref.ensures.value c.in_ok-found.ensures in
-    let prints = subst (λ (f : List Found). PrintsText fault mid new (found_text f)) c.deref-2.ensures.value c.print_found.ensures.printed in (
+    let prints = subst (λ (f : List Found). PrintsText fault mid new (found_text c.args.form f)) c.deref-2.ensures.value c.print_found.ensures.printed in (
       (then.0 ∙ first.0.0, then.1 ∙ first.0.1, (then.2.0 ∙ first.2, then.2.1 ∙ first.3)),
-      inr (bytes, c.in_ok-bytes.ensures.read, (found, are, prints_from fault mid old new (found_text found) first.0.2 prints)),
+      inr (bytes, c.in_ok-bytes.ensures.read, (found, are, prints_from fault mid old new (found_text c.args.form found) first.0.2 prints)),
     )

@@ -4,4 +4,4 @@ use Rattle.lfs_open.specs.FoundText.{found_line}
 use Rattle.lfs_open.proofs.sending.found_text.Given as goal
 
 abbrev pub invariant-loop-here : goal.invariant-loop-here
-invariant-loop-here l = l.text.items ≡ flat_map found_line (take l.here-index l.found)
+invariant-loop-here l = l.text.items ≡ flat_map (found_line l.form) (take l.here-index l.found)
