@@ -37,6 +37,8 @@ ALONE = {
     ),
     "the_text_is_elsewhere": ("src/text.rt", "send(out, that)", "send(out, self)", "BAD EDIT"),
 }
+# What the file of an edit says that doesn't fit.
+SAID = {"nothing_is_sent": "# without: returns-clause-sent\n"}
 # Lines of the prover's about a function in lines 3 to 9 of src/a.rt.
 PROMISED = "note: src/a.rt:4:1: it is not proved that what the function ensures holds when it returns (`returns-clause-sent`); `search` gave up"
 DEMANDED = "note: src/a.rt:5:1: it is not proved that the call's `requires` holds (`send-requires`)"
@@ -67,6 +69,17 @@ FITS = {
     "a_name": ([MISSED, PROMISED], 4, "send-requires c = c.deref-2.ensures"),
     "a_type": (["proofs/a/f/Answers.antt:8:9: error: `returns`: the two types differ"], 6, ""),
 }
+# What an edit's file says of that proof, and how the proof is tried then.
+HINTS = ["# with: deref-2 for deref", "# without: returns"]
+HINTED = """use A.{b}
+
+pub send-requires : goal.send-requires
+send-requires c = c.deref-2.ensures
+
+
+
+
+"""
 
 
 def runner():
@@ -81,7 +94,7 @@ def runner():
 def edit_in(module, place):
     """An edit of the function that the lines are about."""
     edit = object.__new__(module.Edit)
-    edit.place, edit.function = place, module.Function("src/a.rt", (), "f", 3, 9)
+    edit.place, edit.function, edit.hints = place, module.Function("src/a.rt", (), "f", 3, 9), []
     return edit
 
 
@@ -100,6 +113,9 @@ def check_lines(counts, module):
             moved = trial.hear(said)
             lines = trial.text("proofs/a/f/Answers.antt").split("\n")
             counts.check(name, moved and not trial.refusal and lines[number - 1] == wanted and len(lines) == PROOF.count("\n") + 1, lines)
+        edit.hints = HINTS
+        trial = module.Trial(edit)
+        counts.check("hints", trial.text("proofs/a/f/Answers.antt") == HINTED and trial.found_hints() == HINTS, trial.texts)
 
 
 def lines_of(edits, room):
@@ -112,7 +128,7 @@ def lines_of(edits, room):
     folder = room / "crates" / CRATE / "must-fail"
     folder.mkdir()
     for name, (file, old, new, _) in edits.items():
-        (folder / f"{name}.edit").write_text(f"file: {file}\nold: {old}\nnew: {new}\n")
+        (folder / f"{name}.edit").write_text(f"file: {file}\nold: {old}\nnew: {new}\n{SAID.get(name, '')}")
     words = [room / "bin/try-edits", room, room / "log"]
     how = {"stdin": subprocess.DEVNULL, "stdout": subprocess.PIPE, "text": True, "env": {**os.environ, "XDG_CACHE_HOME": str(room / "kept")}}
     return subprocess.run(words, **how).stdout.splitlines()
