@@ -13,7 +13,5 @@ mod viewing;
 
 pub use auto_file::AutoFile;
 pub use auto_sizes::AutoSizes;
-pub use matching::{
-    auto_image, auto_other, faults_asked, flash_asked, form_asked, request_said,
-};
+pub use matching::{auto_image, auto_other, faults_asked, flash_asked, form_asked, request_said};
 pub use usage_error::{UsageError, Ways};

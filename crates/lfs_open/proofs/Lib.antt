@@ -1,6 +1,7 @@
 pub mod FindingLemmas
 pub mod StopLemmas
 pub mod HostFolderLemmas
+pub mod ContentsLemmas
 pub mod LineLemmas
 pub mod OpenedLemmas
 pub mod ReadLengths

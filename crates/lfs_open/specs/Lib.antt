@@ -6,6 +6,7 @@ pub mod Later
 pub mod ReadBy
 pub mod Stated
 pub mod HostFolder
+pub mod LineContents
 pub mod LineMoves
 pub mod Extent
 pub mod Repacking

@@ -1,5 +1,4 @@
 -- What the lines of a script put, and the moves that they say (own).
-use Rattle.std.specs.Global.{Vec}
 use Rattle.std.specs.Prelude.{◌≡◌, ℕ, List, [], ◌∷◌, Option, Some, None, flat_map}
 use Rattle.lfs_fs.specs.Limits.{most_file}
 use Rattle.lfs_command.specs.Command.{Asked}
@@ -21,17 +20,17 @@ abbrev pub HandsContents : Move Source → Option Files → List ℕ → Type 0
 HandsContents (Do (Put path (File name) most) keep) files contents = ReadsFile files name.now most_file contents
 HandsContents _ files contents = contents ≡ []
 
--- so much was read for a line
-abbrev pub HandsLine : Option Files → ScriptLine → Vec ℕ → Type 0
-HandsLine files line read = HandsContents line.step files read.items
+-- this was read for a line
+abbrev pub HandsLine : Option Files → ScriptLine → List ℕ → Type 0
+HandsLine files line contents = HandsContents line.step files contents
 
 -- the step on a history that a line says, with the contents that were read for it
 abbrev pub move_said : ScriptLine → List ℕ → change.Move
 move_said line read = step_by (bytes_given read) line.step
 
 -- those of lines, with what was read for each
-abbrev pub moves_said : List ScriptLine → List (Vec ℕ) → List change.Move
-moves_said (line ∷ lines) (bytes ∷ read) = move_said line bytes.items ∷ moves_said lines read
+abbrev pub moves_said : List ScriptLine → List (List ℕ) → List change.Move
+moves_said (line ∷ lines) (bytes ∷ read) = move_said line bytes ∷ moves_said lines read
 moves_said _ _ = []
 
 -- ---- commands

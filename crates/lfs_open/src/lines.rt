@@ -1,6 +1,6 @@
 //! The lines of what is found, as text and as JSON.
 
-ghost use Rattle.std.specs.Prelude.{◌≡◌, ◌++◌, IfOk, OnOk, codes, string_bytes};
+ghost use Rattle.std.specs.Prelude.{◌≡◌, ◌*◌, ◌++◌, IfOk, OnOk, codes, string_bytes};
 ghost use Rattle.json.specs.Json.{string};
 ghost use Rattle.lfs_json.specs.Line.{line_of};
 ghost use Rattle.lfs_json.specs.Written.{Adds, member_tokens, members_tokens};
@@ -108,8 +108,8 @@ fn add_place(alloc: Global, line: &mut Writer, place: &Place) -> Result<(), Allo
 {
     add_number(line, "at", place.at as u64)?;
     add_version(alloc, line, place.version)?;
-    add_number(line, "block", u64::from(place.size))?;
-    add_number(line, "count", u64::from(place.count))?;
+    add_number(line, "block", place.size as u64)?;
+    add_number(line, "count", place.count as u64)?;
     add_number(line, "bytes", bytes_of(place))?;
     Ok(())
 }

@@ -30,12 +30,12 @@ use Rattle.lfs_serve.proofs.StepLemmas.{step_from}
 
 -- ---- what they mean
 
-all_mean : (files : Option Files) (lines : List ScriptLine) (read : List (Vec ℕ)) → AllZip (HandsLine files) lines read
+all_mean : (files : Option Files) (lines : List ScriptLine) (read : List (List ℕ)) → AllZip (HandsLine files) lines read
     → AllZip (MeansMove files) lines (moves_said lines read)
 all_mean files [] [] zips = tt
 all_mean files [] (one ∷ read) zips = absurd zips
 all_mean files (line ∷ lines) [] zips = absurd zips
-all_mean files (line ∷ lines) (one ∷ read) zips = ((one.items, zips.0, refl), all_mean files lines read zips.1)
+all_mean files (line ∷ lines) (one ∷ read) zips = ((one, zips.0, refl), all_mean files lines read zips.1)
 
 -- what a step keeps may be kept
 said_in_range : (step : Move Source) (read : List ℕ) (terms : Terms) → MayKeep terms.keep → IsOnTerms terms step
@@ -51,16 +51,16 @@ lines_in_range terms [] may keeps = tt
 lines_in_range terms (line ∷ lines) may keeps =
     (λ read. said_in_range line.step read terms may keeps.0, lines_in_range terms lines may keeps.1)
 
-all_said_in_range : (lines : List ScriptLine) (read : List (Vec ℕ)) → KeepInRange lines → AllByRecursion KeepsInRange (moves_said lines read)
+all_said_in_range : (lines : List ScriptLine) (read : List (List ℕ)) → KeepInRange lines → AllByRecursion KeepsInRange (moves_said lines read)
 all_said_in_range [] read keeps = tt
 all_said_in_range (line ∷ lines) [] keeps = tt
-all_said_in_range (line ∷ lines) (one ∷ read) keeps = (keeps.0 one.items, all_said_in_range lines read keeps.1)
+all_said_in_range (line ∷ lines) (one ∷ read) keeps = (keeps.0 one, all_said_in_range lines read keeps.1)
 
 in_range_of : (moves : List OnBytes) → AllByRecursion KeepsInRange (map step_of moves) → AllByRecursion (λ m. KeepsInRange (step_of m)) moves
 in_range_of [] all = tt
 in_range_of (m ∷ moves) all = (all.0, in_range_of moves all.1)
 
-pub all_in_range : (lines : List ScriptLine) (read : List (Vec ℕ)) (moves : List OnBytes) → KeepInRange lines
+pub all_in_range : (lines : List ScriptLine) (read : List (List ℕ)) (moves : List OnBytes) → KeepInRange lines
     → map step_of moves ≡ moves_said lines read → AllByRecursion (λ m. KeepsInRange (step_of m)) moves
 all_in_range lines read moves keeps same =
     in_range_of moves (subst (AllByRecursion KeepsInRange) (sym same) (all_said_in_range lines read keeps))
@@ -86,7 +86,7 @@ none_asked one keep [] none = refl
 none_asked one keep (move ∷ moves) none = absurd (omega (arith, none))
 
 -- the steps that are taken are those of the lines
-pub takes_lines : (files : Option Files) (lines : List ScriptLine) (read : List (Vec ℕ)) (steps moves : List OnBytes)
+pub takes_lines : (files : Option Files) (lines : List ScriptLine) (read : List (List ℕ)) (steps moves : List OnBytes)
     → AllZip (HandsLine files) lines read → map step_of moves ≡ moves_said lines read → steps ≡ moves
     → TakesLines files lines (map step_of steps)
 takes_lines files lines read steps moves zips same are =

@@ -16,6 +16,7 @@ const MOST_TRIES: u32 = 1_000;
 
 /// How often, and how long each time, a run waits for another one that gives new files their names. What a killed run left looks the same.
 const MOST_WAITS: u32 = 100;
+
 const WAIT: Duration = Duration::from_millis(2);
 
 /// What is said of a folder, a device or the like.

@@ -9,7 +9,11 @@ use std::fmt::Write;
 /// Adds the object of a fault: its number, its name and what is said of it.
 fn push_object(text: &mut String, fault: &Explanation, said: &str) -> Result<(), AllocError> {
     let said = Quoted { text: said };
-    write!(text, "{{\"fault\":{},\"name\":\"{}\",\"text\":{said}}}\n", fault.number, fault.name)
+    write!(
+        text,
+        "{{\"fault\":{},\"name\":\"{}\",\"text\":{said}}}\n",
+        fault.number, fault.name
+    )
 }
 
 /// Adds the page of a fault, after an empty line unless it is the first.

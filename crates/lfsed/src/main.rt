@@ -16,8 +16,8 @@ use lfs_exchange::report;
 use lfs_host::Host;
 use lfs_request::Fault;
 use lfs_system::Terminal;
-use std::io::ErrorKind;
 use std::env::Env;
+use std::io::ErrorKind;
 use std::process::ExitCode;
 use std::{env, io};
 

@@ -1,6 +1,5 @@
 -- One line more is said.
-use Rattle.std.proofs.Common.{◌∙◌, ℕ, List, ap, get_or}
-use Rattle.std.specs.Global.{Vec}
+use Rattle.std.proofs.Common.{◌∙◌, ℕ, List, [], ap, get_or}
 use Rattle.lfs_history.specs.Filling.{bytes_given}
 use Rattle.lfs_history.specs.Meaning.{step_by}
 use Rattle.lfs_texts.specs.declared.script_line.ScriptLine.{ScriptLine}
@@ -14,10 +13,8 @@ each-preserved c =
     let read = c.args.read.now in
     let i = c.each.at in
     let line = c.index-lines-at.result in
-    let bytes = c.index-read-at.result in
     let said = c.filled.ensures
-    ∙ ap (λ (given : List ℕ). step_by (bytes_given given) line.step) c.deref.ensures.value
-    ∙ ap (λ (l : ScriptLine). move_said l bytes.items) c.index-lines-at.is
-    ∙ ap (λ (b : Vec ℕ). move_said (get_or lines i line) b.items) c.index-read-at.is in
-    said_more lines read i line bytes c.each.moves.items c.push.new.self.items c.filled.result c.requires c.each-test.true c.each.invariant
+    ∙ ap (λ (given : List ℕ). step_by (bytes_given given) line.step) c.of_line.ensures
+    ∙ ap (λ (l : ScriptLine). move_said l (get_or read i [])) c.index-lines-at.is in
+    said_more lines read i line [] c.each.moves.items c.push.new.self.items c.filled.result c.requires c.each-test.true c.each.invariant
     c.in_ok-push.ensures.items said

@@ -2,7 +2,6 @@
 use Rattle.std.proofs.Common.{rules, ◌≡◌, ◌∙◌, ℕ, List, length, refl, ap, subst, sym, inl, inr, map}
 use Rattle.std.proofs.lemmas.Result.{err_from_is_err_and}
 use Rattle.std.proofs.lemmas.Slice.Zip.{AllZip-long}
-use Rattle.std.specs.Global.{Vec}
 use Rattle.std.specs.List.{AllByRecursion}
 use Rattle.lfs_command.specs.declared.refusal.Refusal.TheVariants.{Memory as No_memory}
 use Rattle.lfs_request.specs.declared.fault.Fault.TheVariants.{Refused}
@@ -22,16 +21,14 @@ use Rattle.lfs_serve.proofs.batching.lines_batched.Goals as goal
 pub moves_of-requires : goal.moves_of-requires
 moves_of-requires g c =
     let files = (g.H.Known.known c.args.host.now).files in
-    let read : List (Vec ℕ) = c.deref.result.now in
-    let read_is : read ≡ c.in_ok-read.read.items = c.deref.ensures.value in
-    ap length read_is ∙ AllZip-long (HandsLine files) c.args.lines.now c.in_ok-read.read.items c.in_ok-read.ensures.read
+    AllZip-long (HandsLine files) c.args.lines.now c.in_ok-read.read c.in_ok-read.ensures.read
 
 pub moves_batched-end-requires-clause-range : goal.moves_batched-end-requires-clause-range
 moves_batched-end-requires-clause-range g c =
-    let moves : List OnBytes = c.deref-2.result.now in
-    let are : moves ≡ c.in_ok-moves.moves.items = c.deref-2.ensures.value in
+    let moves : List OnBytes = c.deref.result.now in
+    let are : moves ≡ c.in_ok-moves.moves.items = c.deref.ensures.value in
     subst (λ (ms : List OnBytes). AllByRecursion (λ m. KeepsInRange (step_of m)) ms) (sym are)
-    (all_in_range c.args.lines.now c.deref.result.now c.in_ok-moves.moves.items c.requires.range c.in_ok-moves.ensures)
+    (all_in_range c.args.lines.now c.in_ok-read.read c.in_ok-moves.moves.items c.requires.range c.in_ok-moves.ensures)
 
 pub returns-in_err-read-clause-ended : goal.returns-in_err-read-clause-ended
 returns-in_err-read-clause-ended g c =
@@ -52,12 +49,9 @@ returns-clause-ended g c =
     let new : Scene = g.H.Known.known c.moves_batched-end.new.host in
     let request = c.args.request.now in
     let lines = c.args.lines.now in
-    let moves : List OnBytes = c.deref-2.result.now in
-    let are : moves ≡ c.in_ok-moves.moves.items = c.deref-2.ensures.value in
-    let read : List (Vec ℕ) = c.deref.result.now in
-    let read_is : read ≡ c.in_ok-read.read.items = c.deref.ensures.value in
-    let said = subst (λ (rs : List (Vec ℕ)). map step_of c.in_ok-moves.moves.items ≡ moves_said lines rs) read_is c.in_ok-moves.ensures in
-    let takes = takes_lines old.files lines c.in_ok-read.read.items moves c.in_ok-moves.moves.items c.in_ok-read.ensures.read said are in
+    let moves : List OnBytes = c.deref.result.now in
+    let are : moves ≡ c.in_ok-moves.moves.items = c.deref.ensures.value in
+    let takes = takes_lines old.files lines c.in_ok-read.read moves c.in_ok-moves.moves.items c.in_ok-read.ensures.read c.in_ok-moves.ensures are in
     let kept = c.read_lines.ensures.kept.0 in
     let becomes = BecomesOf old.files lines c.args.one c.args.keep in
     let ended = stopped_by c.numbered.result in

@@ -3,6 +3,8 @@
 use Rattle.std.proofs.Common.{rules, ◌∙◌, Some, ap, inl, inr, sym, subst}
 use Rattle.clap.specs.Words.{Text, subcommand_rows_of}
 use Rattle.lfs_host.specs.Scene.{KeepsAll, Scene}
+use Rattle.lfs_json.specs.declared.form.Form.{Form}
+use Rattle.lfsed.specs.Words.{EndsFound}
 use Rattle.lfsed.proofs.UsageErrorLemmas.{not_for_memory}
 use Rattle.lfsed.proofs.cli.carried.Goals as goal
 
@@ -11,7 +13,11 @@ returns-in-Some g c = record { ended = inl (c.in-Some.faults, c.in-Some.ensures.
 
 pub returns-in-Some-flash_asked : goal.returns-in-Some-flash_asked
 returns-in-Some-flash_asked g c =
-    record { ended = inr (inr (inr (c.in-Some-flash_asked.flash.now, c.in-Some-flash_asked.ensures.some, c.find.ensures.ended))) }
+    let flash = c.in-Some-flash_asked.flash.now in
+    let old : Scene = g.H.Known.known c.args.host.now in
+    let new : Scene = g.H.Known.known c.find.new.host in
+    let ended = subst (λ (form : Form). EndsFound form flash old new c.find.result) c.form_asked-form.ensures c.find.ensures.ended in
+    record { ended = inr (inr (inr (flash, c.in-Some-flash_asked.ensures.some, ended))) }
 
 pub returns-in-Ok : goal.returns-in-Ok
 returns-in-Ok g c =
