@@ -11,8 +11,8 @@ use std::time::Duration;
 /// The rights to write of owner, group and others.
 const WRITE_RIGHTS: u32 = 0o222;
 
-/// How often a file is tried for that other runs replace meanwhile.
-const MOST_TRIES: u32 = 1_000;
+/// How often a file is tried for that others replace meanwhile.
+pub const MOST_TRIES: u32 = 1_000;
 
 /// How often, and how long each time, a run waits for another one that gives new files their names. What a killed run left looks the same.
 const MOST_WAITS: u32 = 100;
@@ -32,6 +32,14 @@ fn is_locked() -> io::Error {
 /// What is said of a folder whose contents are asked for.
 fn is_folder() -> io::Error {
     io::Error::new(ErrorKind::IsADirectory, "it is a folder")
+}
+
+/// What is said of something that isn't what was found under its name.
+pub fn is_replaced() -> io::Error {
+    io::Error::new(
+        ErrorKind::Other,
+        "another program has put something else in its place",
+    )
 }
 
 /// What is said of a name that is taken.
@@ -71,12 +79,33 @@ pub fn must_be_new(rt: &HostRuntime, name: &str) -> io::Result<()> {
     }
 }
 
+/// Whether both are said of one and the same file or folder.
+pub fn is_same(one: &Metadata, other: &Metadata) -> bool {
+    one.dev() == other.dev() && one.ino() == other.ino()
+}
+
+/// What a name leads to, open, if that is what was found there before; none if it is something else by now.
+pub fn opened_same(rt: &HostRuntime, name: &str, found: &Metadata) -> io::Result<Option<File>> {
+    let file = File::open(rt, name)?;
+    if is_same(&file.metadata()?, found) {
+        Ok(Some(file))
+    } else {
+        Ok(None)
+    }
+}
+
 /// A file that is read, but for one that a link leads to.
 pub fn opened_entry(rt: &HostRuntime, name: &str) -> io::Result<File> {
-    if !fs::symlink_metadata(rt, name)?.is_file() {
-        return Err(is_no_file());
+    for _ in 0..MOST_TRIES {
+        let found = fs::symlink_metadata(rt, name)?;
+        if !found.is_file() {
+            return Err(is_no_file());
+        }
+        if let Some(file) = opened_same(rt, name, &found)? {
+            return Ok(file);
+        }
     }
-    File::open(rt, name)
+    Err(is_replaced())
 }
 
 /// Locks a file for this run, as long as it is open.
@@ -90,9 +119,7 @@ fn lock(file: &File) -> io::Result<()> {
 
 /// Whether a name leads to an open file still, and not through a link.
 fn leads_to(rt: &HostRuntime, name: &str, file: &File) -> io::Result<bool> {
-    let named = fs::symlink_metadata(rt, name)?;
-    let open = file.metadata()?;
-    Ok(named.dev() == open.dev() && named.ino() == open.ino())
+    Ok(is_same(&fs::symlink_metadata(rt, name)?, &file.metadata()?))
 }
 
 /// Whether another run may have given its new journal a name, and not yet its new image: that one waits under its own, and no journal does.

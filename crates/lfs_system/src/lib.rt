@@ -3,6 +3,7 @@
 
 mod files;
 mod folders;
+mod open_folders;
 mod standard;
 mod terminal;
 

@@ -1,10 +1,11 @@
 //! The system as a host.
 
 use crate::files::{
-    locked, must_be_new, name_anew, opened, opened_contents, opened_entry, replace, settle, stays,
-    sync_folder, written,
+    locked, must_be_new, name_anew, opened, opened_contents, replace, settle, stays, sync_folder,
+    written,
 };
-use crate::folders::{is_below, is_other, kind_of, names_in};
+use crate::folders::{is_below, is_other};
+use crate::open_folders::OpenFolders;
 use crate::standard::{Closed, is_closed};
 use lfs_block::MAX_IMAGE_LENGTH;
 use lfs_host::{
@@ -50,6 +51,8 @@ pub struct Terminal<'a> {
     new_file: Option<File>,
     /// Whether a new image is written, and has no place yet.
     image_waits: bool,
+    /// The folders on the way to what is read or made in one.
+    folders: OpenFolders,
     /// The file that is being made in a new folder.
     making: Option<File>,
     /// What waits to be written to it.
@@ -74,6 +77,7 @@ impl<'a> Terminal<'a> {
             read: None,
             new_file: None,
             image_waits: false,
+            folders: OpenFolders::new(rt.alloc()),
             making: None,
             waiting: Vec::new(rt.alloc()),
             said: None,
@@ -137,6 +141,11 @@ impl<'a> Terminal<'a> {
                 text: error,
             });
         }
+    }
+
+    /// The bytes of a file in a folder, `most` of them and one more at most.
+    fn entry_bytes(&mut self, alloc: Global, name: &str, most: u64) -> io::Result<Vec<u8>> {
+        bytes_from(alloc, &mut self.folders.open(self.rt, name)?, 0, most)
     }
 
     /// What was refused, which is kept.
@@ -217,11 +226,6 @@ fn input_of(rt: &HostRuntime, alloc: Global, most: u64) -> io::Result<Vec<u8>> {
     Ok(bytes)
 }
 
-/// The bytes of a file in a folder, `most` of them and one more at most.
-fn entry_bytes(rt: &HostRuntime, alloc: Global, name: &str, most: u64) -> io::Result<Vec<u8>> {
-    bytes_from(alloc, &mut opened_entry(rt, name)?, 0, most)
-}
-
 /// Why a folder isn't listed.
 fn list_fault(error: &io::Error) -> ListFault {
     match error.kind() {
@@ -235,7 +239,7 @@ impl Known for Terminal<'_> {}
 
 impl Folders for Terminal<'_> {
     fn kind(&mut self, name: &str) -> Result<HostKind, ReadFault> {
-        match kind_of(self.rt, name) {
+        match self.folders.kind(self.rt, name) {
             Ok(HostKind::Other) => match self.note_entry(name, is_other()) {
                 Ok(()) => Ok(HostKind::Other),
                 Err(_) => Err(ReadFault::Memory),
@@ -246,7 +250,7 @@ impl Folders for Terminal<'_> {
     }
 
     fn list(&mut self, alloc: Global, name: &str) -> Result<Vec<String>, ListFault> {
-        match names_in(self.rt, alloc, name) {
+        match self.folders.list(self.rt, alloc, name) {
             Ok(names) => Ok(names),
             Err(error) => {
                 let fault = list_fault(&error);
@@ -259,17 +263,20 @@ impl Folders for Terminal<'_> {
     }
 
     fn read_entry(&mut self, alloc: Global, name: &str, most: u64) -> Result<Vec<u8>, ReadFault> {
-        entry_bytes(self.rt, alloc, name, most).map_err(|error| self.entry_fault(name, error))
+        self.entry_bytes(alloc, name, most)
+            .map_err(|error| self.entry_fault(name, error))
     }
 }
 
 impl NewFolder for Terminal<'_> {
     fn make_folder(&mut self, name: &str) -> Result<(), HostFault> {
-        fs::create_dir(self.rt, name).map_err(|error| self.refused_entry(name, error))
+        self.folders
+            .make(self.rt, name)
+            .map_err(|error| self.refused_entry(name, error))
     }
 
     fn begin_file(&mut self, name: &str) -> Result<(), HostFault> {
-        match File::create_new(self.rt, name) {
+        match self.folders.create(self.rt, name) {
             Ok(file) => {
                 self.making = Some(file);
                 self.waiting.clear();
