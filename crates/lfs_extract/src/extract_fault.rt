@@ -1,6 +1,6 @@
 //! Why the rows of an image do not all become files and folders of a host.
 
-use lfs_host::HostFault;
+use lfs_host::{HostFault, MakeFault};
 use std::alloc::AllocError;
 use std::fmt;
 use thiserror::Error;
@@ -51,6 +51,17 @@ impl From<HostFault> for ExtractFault {
     ghost from_gives = { λ refused fault. fault ≡ CannotWrite };
 
     fn from(_refused: HostFault) -> ExtractFault {
+        ExtractFault::CannotWrite
+    }
+}
+
+impl From<MakeFault> for ExtractFault {
+    ghost use Rattle.std.specs.Prelude.{◌≡◌};
+    ghost use Rattle.lfs_extract.specs.declared.extract_fault.ExtractFault.TheVariants.{CannotWrite};
+
+    ghost from_gives = { λ refused fault. fault ≡ CannotWrite };
+
+    fn from(_refused: MakeFault) -> ExtractFault {
         ExtractFault::CannotWrite
     }
 }

@@ -95,7 +95,10 @@ pub(crate) fn make_row<B: Blocks, F: NewFolder>(
     ensures kept { KeepsFiles (F.known folder.old) (F.known folder.new) }
 {
     match &row.body {
-        RowBody::Directory(..) => folder.make_folder(name),
+        RowBody::Directory(..) => {
+            folder.make_folder(name)?;
+            Ok(())
+        }
         body => make_file(disk, body, name, folder),
     }
 }

@@ -15,6 +15,7 @@ use crate::known::Known;
 use crate::list_fault::ListFault;
 use crate::lock::Lock;
 use crate::made_entry::{MadeEntry, fill_last};
+use crate::make_fault::MakeFault;
 use crate::memory_files::{MemoryFiles, move_file, put, put_text, take};
 use crate::memory_tree::{below, kind_of, names_in};
 use crate::new_folder::NewFolder;
@@ -214,16 +215,18 @@ impl MemoryHost {
 }
 
 impl NewFolder for MemoryHost {
-    fn make_folder(&mut self, name: &str) -> Result<(), HostFault> {
+    fn make_folder(&mut self, name: &str) -> Result<(), MakeFault> {
         self.must_work()?;
         let made = MadeEntry::folder(self.alloc, name);
-        self.keep(made)
+        self.keep(made)?;
+        Ok(())
     }
 
-    fn begin_file(&mut self, name: &str) -> Result<(), HostFault> {
+    fn begin_file(&mut self, name: &str) -> Result<(), MakeFault> {
         self.must_work()?;
         let made = MadeEntry::file(self.alloc, name);
-        self.keep(made)
+        self.keep(made)?;
+        Ok(())
     }
 
     fn fill(&mut self, bytes: &[u8]) -> Option<usize> {

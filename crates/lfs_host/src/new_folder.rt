@@ -7,19 +7,20 @@ ghost use Rattle.lfs_host.specs.Scene.{KeepsFiles, Notes};
 
 use crate::host_fault::HostFault;
 use crate::known::Known;
+use crate::make_fault::MakeFault;
 
 /// A host on which folders and files are made, one file at a time. What is made so isn't among the host's files. A file counts as made
 /// once it is begun.
 pub trait NewFolder: Known {
-    /// Makes a folder of this name.
-    fn make_folder(&mut self, name: &str) -> Result<(), HostFault>
+    /// Makes a folder of this name. `Name` if the host can't have the name, and might have another.
+    fn make_folder(&mut self, name: &str) -> Result<(), MakeFault>
         ensures made { MatchResult result (λ _. Makes (Self.known self.old).made (Self.known self.new).made (FolderMade name.now ∷ []))
             (λ _. (Self.known self.new).made ≡ (Self.known self.old).made) }
         ensures noted { Notes (MakingFolder name.now) (is_err result) (Self.known self.old) (Self.known self.new) }
         ensures kept { KeepsFiles (Self.known self.old) (Self.known self.new) };
 
-    /// Begins a file of this name, of which nothing is written yet.
-    fn begin_file(&mut self, name: &str) -> Result<(), HostFault>
+    /// Begins a file of this name, of which nothing is written yet. `Name` if the host can't have the name, and might have another.
+    fn begin_file(&mut self, name: &str) -> Result<(), MakeFault>
         ensures made { MatchResult result (λ _. Makes (Self.known self.old).made (Self.known self.new).made (FileMade name.now [] ∷ []))
             (λ _. (Self.known self.new).made ≡ (Self.known self.old).made) }
         ensures noted { Notes (BeginningFile name.now) (is_err result) (Self.known self.old) (Self.known self.new) }

@@ -64,6 +64,7 @@ fn report_of<H: Host>(host: &mut H, request: &Request<'_>, stop: &Stop, context:
             report_source_limit(host, request, stop.count);
         }
         Fault::HostEntry => report_entry(host, request),
+        Fault::HostName => report_name(host, request),
         Fault::Refused(Refusal::BadCount) => report_bad_count(host, request, stop.count),
         Fault::Refused(Refusal::NoSpace { .. }) => report_space(host, request),
         _ => {}
@@ -152,6 +153,19 @@ fn report_entry<H: Host>(host: &mut H, request: &Request<'_>)
         _ => return,
     };
     report_words(host, dir, "is there already");
+}
+
+/// Tells what helps with an image of which no folder is made, since a host can't have one of its names.
+fn report_name<H: Host>(host: &mut H, request: &Request<'_>)
+    ensures kept { H.known host.new ≡ H.known host.old }
+{
+    if let Operation::Extract { .. } = request.operation {
+        report_words(
+            host,
+            request.image,
+            "a name isn't UTF-8 or holds a zero byte; salvage saves it under another name",
+        );
+    }
 }
 
 /// Tells how many blocks an image has that isn't made longer by as many as are asked for.

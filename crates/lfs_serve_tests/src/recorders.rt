@@ -4,7 +4,7 @@ use crate::memory_folders::packed;
 use lfs_block::Image;
 use lfs_extract::extract_rows;
 use lfs_fs::{MOST_HELD, mount};
-use lfs_host::{HostFault, Known, NewFolder};
+use lfs_host::{HostFault, Known, MakeFault, NewFolder};
 use lfs_pack::PackRow;
 use std::alloc::Global;
 
@@ -28,19 +28,19 @@ struct Recorder {
 impl Known for Recorder {}
 
 impl NewFolder for Recorder {
-    fn make_folder(&mut self, name: &str) -> Result<(), HostFault> {
+    fn make_folder(&mut self, name: &str) -> Result<(), MakeFault> {
         let Ok(name) = String::from_str(self.alloc, name) else {
-            return Err(HostFault);
+            return Err(MakeFault::Other);
         };
         let folder = Thing {
             name,
             is_folder: true,
             bytes: Vec::new(self.alloc),
         };
-        self.things.push(folder).map_err(|_| HostFault)
+        self.things.push(folder).map_err(|_| MakeFault::Other)
     }
 
-    fn begin_file(&mut self, _name: &str) -> Result<(), HostFault> {
+    fn begin_file(&mut self, _name: &str) -> Result<(), MakeFault> {
         self.bytes.clear();
         Ok(())
     }

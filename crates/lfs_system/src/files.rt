@@ -17,7 +17,8 @@ pub const MOST_TRIES: u32 = 1_000;
 /// How often, and how long each time, a run waits for another one that gives new files their names. What a killed run left looks the same.
 const MOST_WAITS: u32 = 100;
 
-const WAIT: Duration = Duration::from_millis(2);
+/// In milliseconds.
+const WAIT: u64 = 2;
 
 /// What is said of a folder, a device or the like.
 fn is_no_file() -> io::Error {
@@ -135,7 +136,7 @@ pub fn stays(rt: &HostRuntime, name: &str, file: &File) -> io::Result<bool> {
         if !is_between(rt, name)? {
             return leads_to(rt, name, file);
         }
-        sleep(rt, WAIT);
+        sleep(rt, Duration::from_millis(WAIT));
     }
     leads_to(rt, name, file)
 }

@@ -9,7 +9,8 @@ use crate::open_folders::OpenFolders;
 use crate::standard::{Closed, is_closed};
 use lfs_block::MAX_IMAGE_LENGTH;
 use lfs_host::{
-    Folders, Host, HostFault, HostKind, Known, ListFault, Lock, NewFolder, ReadFault, Told,
+    Folders, Host, HostFault, HostKind, Known, ListFault, Lock, MakeFault, NewFolder, ReadFault,
+    Told,
 };
 use lfs_sink::{Out, Sink, Text, write_later, write_rest};
 use std::alloc::{AllocError, Global};
@@ -102,6 +103,17 @@ impl<'a> Terminal<'a> {
             self.subject = Subject::Entry;
         }
         self.refused(error)
+    }
+
+    /// What an error of making something in a new folder means, which is kept, with its name where there is memory for it.
+    fn make_fault(&mut self, name: &str, error: io::Error) -> MakeFault {
+        let fault = if is_of_name(&error) {
+            MakeFault::Name
+        } else {
+            MakeFault::Other
+        };
+        let _ = self.refused_entry(name, error);
+        fault
     }
 
     /// What an error of reading something in a folder means, which is kept.
@@ -235,6 +247,17 @@ fn list_fault(error: &io::Error) -> ListFault {
     }
 }
 
+/// Linux's number for a name whose bytes a file system doesn't take.
+const NO_SUCH_BYTES: i32 = 84;
+
+/// Whether an error is one of a name: another one might be taken in its place.
+fn is_of_name(error: &io::Error) -> bool {
+    match error.kind() {
+        ErrorKind::AlreadyExists | ErrorKind::InvalidFilename | ErrorKind::InvalidInput => true,
+        _ => error.raw_os_error() == Some(NO_SUCH_BYTES),
+    }
+}
+
 impl Known for Terminal<'_> {}
 
 impl Folders for Terminal<'_> {
@@ -269,20 +292,25 @@ impl Folders for Terminal<'_> {
 }
 
 impl NewFolder for Terminal<'_> {
-    fn make_folder(&mut self, name: &str) -> Result<(), HostFault> {
-        self.folders
-            .make(self.rt, name)
-            .map_err(|error| self.refused_entry(name, error))
+    fn make_folder(&mut self, name: &str) -> Result<(), MakeFault> {
+        match self.folders.make(self.rt, name) {
+            Ok(()) => {
+                self.said = None;
+                Ok(())
+            }
+            Err(error) => Err(self.make_fault(name, error)),
+        }
     }
 
-    fn begin_file(&mut self, name: &str) -> Result<(), HostFault> {
+    fn begin_file(&mut self, name: &str) -> Result<(), MakeFault> {
         match self.folders.create(self.rt, name) {
             Ok(file) => {
+                self.said = None;
                 self.making = Some(file);
                 self.waiting.clear();
                 Ok(())
             }
-            Err(error) => Err(self.refused_entry(name, error)),
+            Err(error) => Err(self.make_fault(name, error)),
         }
     }
 

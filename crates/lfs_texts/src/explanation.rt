@@ -324,7 +324,9 @@ const EXPLANATIONS: [Explanation; 51] = [
         number: 63,
         name: "HostName",
         text: "A name in the folder that is packed isn't UTF-8, and the second line says in which folder; or a name in \
-         the image isn't UTF-8 or holds a zero byte, so that no file of the host is given it. Give it another name.",
+         the image isn't UTF-8 or holds a zero byte, so that no file of the host is given it. Give it another name. \
+         `salvage` saves what gets one of three names, and ends so only if something in an image that mounts gets \
+         none.",
     },
     Explanation {
         number: 64,
