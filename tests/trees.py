@@ -50,6 +50,18 @@ def entries_move_in_their_part(folder):
     blocks.stand("what is moved", [ROOT, (4, 5), (2, 3)], [ROOT, (2, 3), (4, 5)], 2)
 
 
+def directories_are_found_before_their_parents(folder):
+    """A directory that moves keeps its place in the thread, which may be before that of its new parent."""
+    blocks = three_directories(folder)
+    for line, length in ("mv /b /a/c/b", 0), ("put /a/c/b/x", 5):
+        blocks.do(line, length)
+    blocks.stand("what is below", [ROOT, (4, 5), (2, 3), (6, 7)], [ROOT, (2, 3), (6, 7), (4, 5)], 0)
+    blocks.lists("/", "/a", "/a/c", "/a/c/b", "/a/c/b/x")
+    for line in "rm /a/c/b/x", "rm /a/c/b":
+        blocks.do(line)
+    blocks.stand("what is left", [ROOT, (2, 3), (6, 7)], [ROOT, (2, 3), (6, 7)], 2)
+
+
 # A command on an image of so many blocks of 256 bytes with long names, what is complained, and where all stands then.
 LONG = (
     ("put", 4, "lfsed: 43 NoSpace need 4 free 2\n", [ROOT], [ROOT], 2),
@@ -391,6 +403,7 @@ sys.exit(run_scenes([
     directories_take_blocks_and_give_them_back,
     directories_go_with_what_is_below,
     entries_move_in_their_part,
+    directories_are_found_before_their_parents,
     parts_are_cut,
     parts_are_filled_to_the_last_byte,
     new_pairs_hold_a_part_beside_an_erased_block,

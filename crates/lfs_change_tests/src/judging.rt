@@ -1,6 +1,6 @@
 //! What commands are refused for, and which parts lead.
 
-ghost use Rattle.lfs_draft.specs.Editable.{NamesRise};
+ghost use Rattle.lfs_fs.specs.Sound.{IsSound};
 
 use crate::images::{carries_out, new_session};
 use lfs_block::Image;
@@ -40,9 +40,9 @@ const ROWS: [Judged; 6] = [
     (Command::Grow { count: 9 }, None, None),
 ];
 
-// whether a command is judged so on an outline whose names rise
+// whether a command is judged so on a sound outline
 fn is_judged(alloc: Global, outline: &Outline, row: &Judged) -> bool
-    requires { NamesRise outline.now.directories }
+    requires { IsSound outline.now }
 {
     let (command, refusal, pair) = row;
     match by_names(alloc, command) {
@@ -53,9 +53,9 @@ fn is_judged(alloc: Global, outline: &Outline, row: &Judged) -> bool
     }
 }
 
-// whether the commands are judged so on an outline whose names rise
+// whether the commands are judged so on a sound outline
 fn all_are_judged(alloc: Global, outline: &Outline) -> bool
-    requires { NamesRise outline.now.directories }
+    requires { IsSound outline.now }
 {
     for row in &ROWS {
         if !is_judged(alloc, outline, row) {

@@ -10,7 +10,7 @@ use Rattle.lfs_law.proofs.OneElement.{none_later, none_counted, count_cases}
 use Rattle.lfs_draft.proofs.OneIndex.{nowhere}
 
 -- if no part goes, all stay
-none_goes : (goes : Part → Bool) (p : Part) (ps : List Part) → find goes ps ≡ None → record { first = p; more = ps } ≡ drop_later goes p ps
+pub none_goes : (goes : Part → Bool) (p : Part) (ps : List Part) → find goes ps ≡ None → record { first = p; more = ps } ≡ drop_later goes p ps
 unfolding drop_later
 none_goes goes p [] none = refl
 none_goes goes p (q ∷ ps) none = by (goes q) refl (none_goes goes q ps (none_later goes q ps none))

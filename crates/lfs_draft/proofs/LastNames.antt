@@ -1,8 +1,8 @@
 -- What the end of rising names says of all of them.
 use Rattle.std.proofs.Common.{◌≡◌, ◌-◌, ◌<◌, ◌≤◌, ℕ, Bool, true, false, cond, List, [], ◌∷◌, ◌++◌, Option, Some, None, length, refl, ap, sym, ◌∙◌, subst, arith}
-use Rattle.std.proofs.Common.{append_assoc, append-nil, get_or, length-append, suc, take}
-use Rattle.std.specs.Prelude.{All, count_by, find, if◌then◌else◌, nat_lt, slice_get}
-use Rattle.std.specs.List.{list_any, position, position_or_len}
+use Rattle.std.proofs.Common.{append_assoc, append-nil, get_or, length-append, suc, take, zero}
+use Rattle.std.specs.Prelude.{◌||◌, not, All, count_by, find, if◌then◌else◌, nat_lt, slice_get}
+use Rattle.std.specs.List.{list_any, position, position_or_len, prefix_len}
 use Rattle.std.specs.Option.{option_and_then, unwrap_or}
 use Rattle.std.proofs.lemmas.Bool.Decides.{nat_tests}
 use Rattle.std.proofs.lemmas.Grind.{flat_map-append}
@@ -128,6 +128,11 @@ no_part_has order n (p ∷ ps) all =
     rw (none_has order n p.entries (All-left (λ (e : Entry). precedes e.name n ≡ true) p.entries (entries_of ps) all))
     (no_part_has order n ps (All-right (λ (e : Entry). precedes e.name n ≡ true) p.entries (entries_of ps) all))
 
+-- the first part neither
+pub first_not_greater : NamesAreOrdered → (n : Name) (d : Directory) → AllBefore n (entries d) → has_greater n d.first ≡ false
+first_not_greater order n d all =
+    none_greater order n d.first.entries (All-left (λ (e : Entry). precedes e.name n ≡ true) d.first.entries (entries_of d.more) all)
+
 past_all : NamesAreOrdered → (n : Name) (ps : List Part) → AllBefore n (entries_of ps) → position_or_len (has_greater n) ps ≡ length ps
 past_all order n [] all = refl
 past_all order n (p ∷ ps) all =
@@ -223,6 +228,36 @@ last_got {X} (x ∷ y ∷ ys) e is =
     let last : length (x ∷ y ∷ ys) - 1 ≡ suc (length (y ∷ ys) - 1) = omega arith in
     got_more x e (y ∷ ys) (last_got (y ∷ ys) e (subst (λ (n : ℕ). slice_get (x ∷ y ∷ ys) n ≡ Some e) last is))
 
+-- a part has the name if its last entry has
+any_last : (n : Name) (xs : List Entry) (e : Entry) → is_named n e ≡ true → list_any (is_named n) (xs ++ e ∷ []) ≡ true
+any_last n [] e is = rw is refl
+any_last n (x ∷ xs) e is = by (is_named n x) (any_last n xs e is)
+  where
+    by : (t : Bool) → list_any (is_named n) (xs ++ e ∷ []) ≡ true → (t || list_any (is_named n) (xs ++ e ∷ [])) ≡ true
+    by true later = refl
+    by false later = later
+
+pub has_last : (n : Name) (p : Part) (slice : List Entry) (e : Entry) → slice ≡ p.entries → slice_get slice (length slice - 1) ≡ Some e
+    → is_named n e ≡ true → true ≡ has_name n p
+has_last n p slice e same got is =
+    let ends = last_got slice e got in
+    sym (ap (list_any (is_named n)) (sym same ∙ ends.1) ∙ any_last n ends.0 e is)
+
+-- all entries stand before a name that comes after the last one
+before_greater : NamesAreOrdered → (n : Name) (es : List Entry) → AllBefore n es → prefix_len (λ e. not (precedes n e.name)) es ≡ length es
+before_greater order n [] all = refl
+before_greater order n (e ∷ es) all =
+    let here : precedes n e.name ≡ false = behind order e.name n (All-head (λ (x : Entry). precedes x.name n ≡ true) e es all) in
+    let rest = before_greater order n es (All-tail (λ (x : Entry). precedes x.name n ≡ true) e es all) in
+    grind (arith, here, rest)
+
+pub all_stand_before : NamesAreOrdered → (n : Name) (es : List Entry) (e : Entry) → Rise es → slice_get es (length es - 1) ≡ Some e
+    → precedes e.name n ≡ true → length es ≡ prefix_len (λ e. not (precedes n e.name)) es
+all_stand_before order n es e rise got before =
+    let ends = last_got es e got in
+    sym (before_greater order n es
+    (subst (AllBefore n) (sym ends.1) (all_before order n ends.0 e (subst Rise ends.1 rise) before)))
+
 pub last_is_more : (d : Directory) (first p : Part) (more slice : List Part) → record { first = first; more = more } ≡ d → slice ≡ more
     → slice_get slice (length slice - 1) ≡ Some p → IsLastPart d p
 last_is_more d first p more slice is same got =
@@ -291,6 +326,19 @@ place_is_last n ps p last some is at once has =
 pub rise_right : (xs ys : List Entry) → Rise (xs ++ ys) → Rise ys
 rise_right [] ys rise = rise
 rise_right (x ∷ xs) ys rise = rise_right xs ys rise.1
+
+pub rise_left : (xs ys : List Entry) → Rise (xs ++ ys) → Rise xs
+rise_left [] ys rise = tt
+rise_left (x ∷ xs) ys rise = (All-left (λ (f : Entry). precedes x.name f.name ≡ true) xs ys rise.0, rise_left xs ys rise.1)
+
+-- the names of each part rise
+rises_at : (ps : List Part) (i : ℕ) (d : Part) → Rise (entries_of ps) → i < length ps → Rise (get_or ps i d).entries
+rises_at [] i d rise within = absurd (omega (arith, within))
+rises_at (p ∷ ps) zero d rise within = rise_left p.entries (entries_of ps) rise
+rises_at (p ∷ ps) (suc i) d rise within = rises_at ps i d (rise_right p.entries (entries_of ps) rise) (omega (arith, within))
+
+pub part_rises : (ps : List Part) (i : ℕ) (p : Part) → Rise (entries_of ps) → i < length ps → p ≡ get_or ps i p → Rise p.entries
+part_rises ps i p rise within is = subst (λ (q : Part). Rise q.entries) (sym is) (rises_at ps i p rise within)
 
 -- what is left of rising names rises
 pub unlinked_rise : (k : Pair) (n : Name) (ds : List Directory) → NamesRise ds → NamesRise (unlink k n ds)

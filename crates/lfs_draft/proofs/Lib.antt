@@ -1,5 +1,6 @@
 pub mod OutlinePlaces
 pub mod OneIndex
+pub mod PlacesFrom
 pub mod LinkedParts
 pub mod LastParts
 pub mod AddedDirectories
@@ -16,3 +17,4 @@ pub mod LastNames
 pub mod FrontLemmas
 pub mod SaidPaths
 pub mod DroppedParts
+pub mod UnlinkedParts

@@ -1,8 +1,9 @@
 -- An entry linked into the part where its name belongs, by the place of that part.
-use Rattle.std.proofs.Common.{◌≡◌, ℕ, ◌-◌, ◌<◌, suc, Bool, true, false, List, [], ◌∷◌, length, refl, ap, ◌∙◌, arith, ◌⊎◌, inl, inr}
+use Rattle.std.proofs.Common.{◌≡◌, ℕ, ◌-◌, ◌<◌, suc, Bool, true, false, List, [], ◌∷◌, Option, Some, None, length, refl, ap, ◌∙◌, arith, ◌⊎◌, inl, inr}
 use Rattle.std.specs.Prelude.{if◌then◌else◌, nat_lt, slice_set, slice_index_or}
 use Rattle.std.specs.List.{position, position_or_len}
 use Rattle.std.specs.Option.{unwrap_or}
+use Rattle.std.proofs.lemmas.List.Quantifiers.{position-Some}
 use Rattle.lfs_fs.specs.Entry.{Entry}
 use Rattle.lfs_fs.specs.Directory.{Part, parts}
 use Rattle.lfs_command.specs.EntryEdit.{place}
@@ -11,6 +12,15 @@ use Rattle.lfs_command.specs.DirectoryEdit.{has_greater, touch, behind, link_par
 -- the first place that passes, else the last one
 abbrev pub first_or_last : {X : Type 0} → (X → Bool) → List X → ℕ
 first_or_last t xs = unwrap_or (position t xs) (length xs - 1)
+
+-- it is one of them
+pub one_of_them : {X : Type 0} (t : X → Bool) (xs : List X) → 0 < length xs → first_or_last t xs < length xs
+one_of_them t [] some = absurd (omega (arith, some))
+one_of_them t (x ∷ xs) some = by (position t (x ∷ xs)) refl
+  where
+    by : (o : Option ℕ) → position t (x ∷ xs) ≡ o → unwrap_or o (length (x ∷ xs) - 1) < length (x ∷ xs)
+    by None is = omega arith
+    by (Some i) is = (position-Some t (x ∷ xs) i x is).0
 
 alone : {X : Type 0} (t : X → Bool) (x : X) → first_or_last t (x ∷ []) ≡ 0
 alone t x = by (t x) refl

@@ -8,7 +8,7 @@ use Rattle.std.proofs.lemmas.Option.{none-some}
 use Rattle.lfs_law.proofs.OneElement.{where_passes, where_none, none_counted, count_cases}
 
 -- what passes at an index is counted
-counted_at : {X : Type 0} (t : X → Bool) (xs : List X) (i : ℕ) (d : X) → i < length xs → t (slice_index_or xs i d) ≡ true
+pub counted_at : {X : Type 0} (t : X → Bool) (xs : List X) (i : ℕ) (d : X) → i < length xs → t (slice_index_or xs i d) ≡ true
     → 1 ≤ count_by t xs
 counted_at t [] i d within passes = absurd (omega arith)
 counted_at t (x ∷ xs) zero d within passes = grind (arith, count_cases t x xs)

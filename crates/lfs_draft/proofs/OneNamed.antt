@@ -14,11 +14,11 @@ use Rattle.lfs_law.proofs.OneElement.{where_passes, where_none, none_counted, co
 use Rattle.lfs_law.proofs.DirectoryEdits.{entries_of, only_has}
 
 -- what is there is counted, what isn't is not
-some_counted : {X : Type 0} (t : X → Bool) (xs : List X) → list_any t xs ≡ true → 1 ≤ count_by t xs
+pub some_counted : {X : Type 0} (t : X → Bool) (xs : List X) → list_any t xs ≡ true → 1 ≤ count_by t xs
 some_counted t [] has = cc
 some_counted t (x ∷ xs) has = grind (arith, count_cases t x xs, some_counted t xs)
 
-none_found : {X : Type 0} (t : X → Bool) (xs : List X) → list_any t xs ≡ false → find t xs ≡ None
+pub none_found : {X : Type 0} (t : X → Bool) (xs : List X) → list_any t xs ≡ false → find t xs ≡ None
 none_found t [] none = refl
 none_found t (x ∷ xs) none = grind (arith, none_found t xs)
 
@@ -31,7 +31,7 @@ pub few_have : (n : Name) (ps : List Part) → count_by (has_name n) ps ≤ coun
 few_have n [] = omega arith
 few_have n (p ∷ ps) = grind (arith, count_cases (has_name n) p ps, count_parts n p ps, some_counted (is_named n) p.entries, few_have n ps)
 
-only_fewer : (n : Name) (ps : List Part) → count_by (has_only n) ps ≤ count_by (has_name n) ps
+pub only_fewer : (n : Name) (ps : List Part) → count_by (has_only n) ps ≤ count_by (has_name n) ps
 only_fewer n [] = omega arith
 only_fewer n (p ∷ ps) = by (has_only n p) refl (only_fewer n ps)
   where
@@ -84,10 +84,6 @@ some_all n (e ∷ es) some = by (is_named n e) (all_left n es)
 -- a part that has an entry, and none of another name, has nothing but that name
 pub some_only : (n : Name) (p : Part) → 0 < length p.entries → list_all (is_named n) p.entries ≡ has_only n p
 some_only n p some = some_all n p.entries some
-
--- one later part at most has nothing but a name
-pub only_once : (n : Name) (d : Directory) → count_by (is_named n) (entries d) ≤ 1 → count_by (has_only n) d.more ≤ 1
-only_once n d once = omega (arith, once, only_fewer n d.more, few_have n d.more, count_parts n d.first d.more)
 
 pub few_in : (n : Name) (ps : List Part) (i : ℕ) (d : Part) → i < length ps
     → count_by (is_named n) (slice_index_or ps i d).entries ≤ count_by (is_named n) (entries_of ps)

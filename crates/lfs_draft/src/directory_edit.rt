@@ -13,15 +13,18 @@ ghost use Rattle.lfs_command.specs.DirectoryEdit.{absorb, absorb_in, change_in, 
 
 use crate::entry_change::EntryChange;
 use crate::entry_edit::{change_named, place, take_out};
-use crate::last_names::ends_before;
+use crate::last_names::{comes_last, ends_before};
 use lfs_fs::{Delta, OutlineDirectory, OutlineEntry, OutlinePart, names_are_ordered, precedes};
 use std::alloc::{AllocError, Global};
 
-/// Whether a part has an entry of a name.
+/// Whether a part has an entry of a name. Takes no time to speak of where the last one has it.
 pub(crate) fn has_name(part: &OutlinePart, name: &[u8]) -> bool
     ensures { result ≡ has_name name.now part.now }
 {
-    part.entries.iter().any(|entry| entry.is_named(name))
+    match part.entries.last() {
+        Some(entry) if entry.is_named(name) => true,
+        _ => part.entries.iter().any(|entry| entry.is_named(name)),
+    }
 }
 
 /// Whether an entry of a part has a greater name.
@@ -33,6 +36,7 @@ fn has_greater(part: &OutlinePart, name: &[u8]) -> bool
 
 /// Puts an entry into a part, which is set. Want of memory changes nothing.
 fn place_in(part: &mut OutlinePart, entry: OutlineEntry) -> Result<(), AllocError>
+    requires { Rise part.old.entries }
     ensures placed { OnOk result (part.new ≡ touch true (place entry) part.old) }
     ensures unchanged { OnErr result (part.new ≡ part.old) }
 {
@@ -85,13 +89,22 @@ fn link_among(parts: &mut Vec<OutlinePart>, entry: OutlineEntry) -> Result<(), A
     Ok(())
 }
 
-/// Whether a name belongs into a directory's first part: there is no other, or it has a greater name.
+/// Whether a name belongs into a directory's first part: there is no other, or it has a greater name. Takes no time to speak of where the
+/// name comes last.
 fn belongs_first(directory: &OutlineDirectory, name: &[u8]) -> bool
+    requires { Rise (entries directory.now) }
     ensures { MatchBool result
         ((length directory.now.more ≡ 0) ⊎ (has_greater name.now directory.now.first ≡ true))
         ((0 < length directory.now.more) × (has_greater name.now directory.now.first ≡ false)) }
 {
-    directory.parts.more.is_empty() || has_greater(&directory.parts.first, name)
+    names_are_ordered();
+    if directory.parts.more.is_empty() {
+        return true;
+    }
+    if comes_last(directory, name) {
+        return false;
+    }
+    has_greater(&directory.parts.first, name)
 }
 
 /// Puts an entry into the part of a directory where its name belongs, which is set. Want of memory changes nothing.
@@ -132,6 +145,21 @@ fn first_with_only(parts: &[OutlinePart], name: &[u8]) -> Option<usize>
     parts.iter().position(|part| has_only(part, name))
 }
 
+/// The place of the first part that has an entry of a name.
+fn first_with(parts: &[OutlinePart], name: &[u8]) -> Option<usize>
+    requires { count_by (is_named name.now) (flat_map (λ p. p.entries) parts.now) ≤ 1 }
+    ensures { result ≡ position (has_name name.now) parts.now }
+{
+    if parts.is_empty() {
+        return None;
+    }
+    let last = parts.len() - 1;
+    if has_name(&parts[last], name) {
+        return Some(last);
+    }
+    parts.iter().position(|part| has_name(part, name))
+}
+
 /// Takes the part that has only the entry of a name out of those after a first one. The part before it is set and takes up its delta.
 fn drop_emptied(first: &mut OutlinePart, more: &mut Vec<OutlinePart>, name: &[u8])
     requires { count_by (has_only name.now) more.old.items ≤ 1 }
@@ -148,24 +176,34 @@ fn drop_emptied(first: &mut OutlinePart, more: &mut Vec<OutlinePart>, name: &[u8
     }
 }
 
-/// Takes the entries of a name out of parts; each that had one is set.
-fn take_out_of_all(parts: &mut Vec<OutlinePart>, name: &[u8])
-    ensures { parts.new.items ≡ map (λ p. touch (has_name name.now p) (without name.now) p) parts.old.items }
+/// Takes the entry of a name out of the parts after a first one that doesn't have it. A part that has no other entry goes, another part
+/// that had it is set.
+fn unlink_later(first: &mut OutlinePart, more: &mut Vec<OutlinePart>, name: &[u8])
+    requires elsewhere { has_name name.now first.old ≡ false }
+    requires once { count_by (is_named name.now) (flat_map (λ p. p.entries) more.old.items) ≤ 1 }
+    ensures { record { first = first.new; more = more.new.items } ≡ unlink_in name.now (record { first = first.old; more = more.old.items }) }
 {
-    for part in parts.iter_mut() {
-        take_out_of(part, name);
+    let Some(at) = first_with(more, name) else {
+        return;
+    };
+    if has_only(&more[at], name) {
+        drop_emptied(first, more, name);
+    } else {
+        take_out_of(&mut more[at], name);
     }
 }
 
 /// Takes the entry of a name out of a first part and those after it. A later part that has no other entry goes, another part that had it
-/// is set.
+/// is set. Takes time that is linear in a part, if the first or the last one has the name.
 fn unlink_parts(first: &mut OutlinePart, more: &mut Vec<OutlinePart>, name: &[u8])
-    requires { count_by (has_only name.now) more.old.items ≤ 1 }
+    requires { count_by (is_named name.now) (flat_map (λ p. p.entries) (first.old ∷ more.old.items)) ≤ 1 }
     ensures { record { first = first.new; more = more.new.items } ≡ unlink_in name.now (record { first = first.old; more = more.old.items }) }
 {
-    drop_emptied(first, more, name);
-    take_out_of(first, name);
-    take_out_of_all(more, name);
+    if has_name(first, name) {
+        take_out_of(first, name);
+    } else {
+        unlink_later(first, more, name);
+    }
 }
 
 /// Takes the entry of a name out of a directory. A later part that has no other entry leaves the directory, and the part before it takes
@@ -193,21 +231,6 @@ fn change_in_part(
     change_named(alloc, &mut part.entries, name, change)?;
     part.dirty = true;
     Ok(())
-}
-
-/// The place of the first part that has an entry of a name.
-fn first_with(parts: &[OutlinePart], name: &[u8]) -> Option<usize>
-    requires { count_by (is_named name.now) (flat_map (λ p. p.entries) parts.now) ≤ 1 }
-    ensures { result ≡ position (has_name name.now) parts.now }
-{
-    if parts.is_empty() {
-        return None;
-    }
-    let last = parts.len() - 1;
-    if has_name(&parts[last], name) {
-        return Some(last);
-    }
-    parts.iter().position(|part| has_name(part, name))
 }
 
 /// Changes the entry of a name in the part of some that has it, which is set. Want of memory changes nothing.

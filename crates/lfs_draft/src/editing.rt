@@ -5,11 +5,12 @@ ghost use Rattle.lfs_meta.specs.Fits.{BodyFits};
 ghost use Rattle.lfs_fs.specs.AsStored.{stored_body};
 ghost use Rattle.lfs_fs.specs.OutlineHeld.{outline_body_held};
 ghost use Rattle.lfs_fs.specs.Outlined.{outlined_body};
+ghost use Rattle.lfs_fs.specs.Sound.{IsSound};
 ghost use Rattle.lfs_fs.specs.Tree.{entry_at, entry_in};
 ghost use Rattle.lfs_fs.specs.Volume.{Volume};
 ghost use Rattle.lfs_command.specs.AskedFor.{named_command};
 ghost use Rattle.lfs_command.specs.Command.{Grow, Mkdir, Mv, Put, Rm, RmAttr, SetAttr};
-ghost use Rattle.lfs_draft.specs.Editable.{IsEditable, NamesRise};
+ghost use Rattle.lfs_draft.specs.Editable.{IsEditable};
 ghost use Rattle.lfs_law.specs.EditedOutline.{edited_outline};
 ghost use Rattle.lfs_command.specs.Parent.{parent_of};
 ghost use Rattle.lfs_law.specs.ParentChecks.{parent_checks};
@@ -29,7 +30,7 @@ use std::alloc::{AllocError, Global};
 /// Where the last name of a path belongs to.
 pub(crate) fn parent<'a>(outline: &Outline, path: &[&'a [u8]]) -> Parent<'a>
     requires unrefused { first_refusal (parent_checks outline.now (map (λ n. n.now) path.now)) ≡ None }
-    requires rise { NamesRise outline.now.directories }
+    requires sound { IsSound outline.now }
     ensures parent { parent_of outline.now (map (λ n. n.now) path.now) ≡ Some (result.pair, result.name.now) }
     ensures entry { entry_at outline.now (map (λ n. n.now) path.now) ≡ entry_in outline.now.directories result.pair result.name.now }
     ensures len { last_length (map (λ n. n.now) path.now) ≡ length result.name.now }

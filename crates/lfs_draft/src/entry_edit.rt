@@ -4,26 +4,33 @@ ghost use Rattle.std.specs.Prelude.{◌≡◌, ◌≤◌, not, count_by, length,
 ghost use Rattle.std.specs.List.{position, prefix_len};
 ghost use Rattle.lfs_fs.specs.Entry.{is_named};
 ghost use Rattle.lfs_fs.specs.NameOrder.{precedes};
+ghost use Rattle.lfs_fs.specs.Sound.{Rise};
 ghost use Rattle.lfs_draft.specs.EntryChange.{ChangeFits, entry_change};
 ghost use Rattle.lfs_command.specs.EntryEdit.{changed, place, without};
 
 use crate::entry_change::{EntryChange, change_entry};
-use lfs_fs::{OutlineEntry, precedes};
+use lfs_fs::{OutlineEntry, names_are_ordered, precedes};
 use std::alloc::{AllocError, Global};
 
-/// How many entries stand before the first one with a greater name.
+/// How many entries stand before the first one with a greater name. Takes no time to speak of where the name comes last.
 fn place_of(entries: &[OutlineEntry], name: &[u8]) -> usize
+    requires { Rise entries.now }
     ensures place { result ≡ prefix_len (λ e. not (precedes name.now e.name)) entries.now }
     ensures within { result ≤ length entries.now }
 {
-    entries
-        .iter()
-        .take_while(|entry| !precedes(name, &entry.name))
-        .count()
+    names_are_ordered();
+    match entries.last() {
+        Some(entry) if precedes(&entry.name, name) => entries.len(),
+        _ => entries
+            .iter()
+            .take_while(|entry| !precedes(name, &entry.name))
+            .count(),
+    }
 }
 
 /// Puts an entry before the first one with a greater name, else at the end. Want of memory changes nothing.
 pub(crate) fn place(entries: &mut Vec<OutlineEntry>, entry: OutlineEntry) -> Result<(), AllocError>
+    requires { Rise entries.old.items }
     ensures placed { OnOk result (entries.new.items ≡ place entry entries.old.items) }
     ensures unchanged { OnErr result (entries.new.items ≡ entries.old.items) }
 {

@@ -5,6 +5,7 @@ ghost use Rattle.std.specs.List.{filter};
 ghost use Rattle.std.specs.Option.{option_map, unwrap_or};
 ghost use Rattle.lfs_fs.specs.Entry.{target};
 ghost use Rattle.lfs_fs.specs.OutlineHeld.{outline_body_held};
+ghost use Rattle.lfs_fs.specs.Sound.{IsSound};
 ghost use Rattle.lfs_fs.specs.Tree.{entry_at};
 ghost use Rattle.lfs_fs.specs.Uses.{body_uses, directory_uses, entry_uses, pair_uses, part_uses, times};
 ghost use Rattle.lfs_command.specs.AskedFor.{named_command};
@@ -12,7 +13,7 @@ ghost use Rattle.lfs_command.specs.Command.{Rm};
 ghost use Rattle.lfs_command.specs.DirectoryEdit.{has_only};
 ghost use Rattle.lfs_command.specs.Freed.{content_uses, emptied_among, emptied_uses, folder_uses, freed_uses, target_uses};
 ghost use Rattle.lfs_command.specs.Verdict.{first_refusal};
-ghost use Rattle.lfs_draft.specs.Editable.{IsEditable, NamesRise};
+ghost use Rattle.lfs_draft.specs.Editable.{IsEditable};
 ghost use Rattle.lfs_draft.specs.Freeing.{ListsMore};
 ghost use Rattle.lfs_law.specs.ParentChecks.{parent_checks};
 
@@ -108,7 +109,7 @@ fn list_target(
 /// The entry at a path, if there is one.
 fn entry_at<'a>(outline: &'a Outline, path: &[&[u8]]) -> Option<&'a OutlineEntry>
     requires unrefused { first_refusal (parent_checks outline.now (map (λ n. n.now) path.now)) ≡ None }
-    requires rise { NamesRise outline.now.directories }
+    requires sound { IsSound outline.now }
     ensures { option_map (λ e. e.now) result ≡ entry_at outline.now (map (λ n. n.now) path.now) }
 {
     let parent = parent(outline, path);
@@ -118,7 +119,7 @@ fn entry_at<'a>(outline: &'a Outline, path: &[&[u8]]) -> Option<&'a OutlineEntry
 /// Lists the blocks of the file at a path, if there is one.
 fn list_replaced(blocks: &mut Vec<u32>, outline: &Outline, path: &[&[u8]]) -> Result<(), AllocError>
     requires unrefused { first_refusal (parent_checks outline.now (map (λ n. n.now) path.now)) ≡ None }
-    requires rise { NamesRise outline.now.directories }
+    requires sound { IsSound outline.now }
     ensures { OnOk result (ListsMore blocks.old.items blocks.new.items (λ b. content_uses outline.now (map (λ n. n.now) path.now) b)) }
 {
     let Some(entry) = entry_at(outline, path) else {
@@ -131,7 +132,7 @@ fn list_replaced(blocks: &mut Vec<u32>, outline: &Outline, path: &[&[u8]]) -> Re
 /// Lists the blocks of the file or the directory at a path, if there is one.
 fn list_removed(blocks: &mut Vec<u32>, outline: &Outline, path: &[&[u8]]) -> Result<(), AllocError>
     requires unrefused { first_refusal (parent_checks outline.now (map (λ n. n.now) path.now)) ≡ None }
-    requires rise { NamesRise outline.now.directories }
+    requires sound { IsSound outline.now }
     ensures { OnOk result (ListsMore blocks.old.items blocks.new.items (λ b. content_uses outline.now (map (λ n. n.now) path.now) b + target_uses outline.now (map (λ n. n.now) path.now) b)) }
 {
     let Some(entry) = entry_at(outline, path) else {
@@ -181,7 +182,7 @@ fn list_emptied_among(
 /// Lists the blocks of the parts that leave their directory with the entry at a path.
 fn list_left(blocks: &mut Vec<u32>, outline: &Outline, path: &[&[u8]]) -> Result<(), AllocError>
     requires unrefused { first_refusal (parent_checks outline.now (map (λ n. n.now) path.now)) ≡ None }
-    requires rise { NamesRise outline.now.directories }
+    requires sound { IsSound outline.now }
     ensures { OnOk result (ListsMore blocks.old.items blocks.new.items (λ b. emptied_uses outline.now (map (λ n. n.now) path.now) b)) }
 {
     let parent = parent(outline, path);
@@ -192,7 +193,7 @@ fn list_left(blocks: &mut Vec<u32>, outline: &Outline, path: &[&[u8]]) -> Result
 /// Lists the blocks that `rm` of a path gives back.
 fn list_rm(blocks: &mut Vec<u32>, outline: &Outline, path: &[&[u8]]) -> Result<(), AllocError>
     requires unrefused { first_refusal (parent_checks outline.now (map (λ n. n.now) path.now)) ≡ None }
-    requires rise { NamesRise outline.now.directories }
+    requires sound { IsSound outline.now }
     ensures { OnOk result (ListsMore blocks.old.items blocks.new.items (λ b. freed_uses outline.now (Rm (map (λ n. n.now) path.now)) b)) }
 {
     list_removed(blocks, outline, path)?;

@@ -2,11 +2,12 @@
 
 ghost use Rattle.std.specs.Prelude.{◌≡◌, false, All, drop, map};
 ghost use Rattle.lfs_fs.specs.Directory.{thread};
+ghost use Rattle.lfs_fs.specs.Sound.{IsSound};
 ghost use Rattle.lfs_command.specs.AskedFor.{named_command};
 ghost use Rattle.lfs_command.specs.Clean.{IsClean};
 ghost use Rattle.lfs_command.specs.Supplies.{Supplies};
 ghost use Rattle.lfs_law.specs.EditedOutline.{edited_outline};
-ghost use Rattle.lfs_draft.specs.Editable.{BeginOnce, IsEditable, NamesRise};
+ghost use Rattle.lfs_draft.specs.Editable.{BeginOnce, IsEditable};
 ghost use Rattle.lfs_draft.specs.Front.{IsFrontOf};
 
 use crate::parent::parent_of;
@@ -16,7 +17,7 @@ use lfs_fs::Outline;
 
 /// How many directories there are up to the one behind that of a path's last name; two where there is no such name.
 fn front_of(outline: &Outline, path: &[&[u8]]) -> usize
-    requires rise { NamesRise outline.now.directories }
+    requires sound { IsSound outline.now }
     requires once { BeginOnce outline.now.directories }
     ensures { IsFrontOf outline.now (map (λ n. n.now) path.now) result }
 {

@@ -3,10 +3,10 @@
 ghost use Rattle.std.specs.Prelude.{◌≡◌, ◌==◌, ℕ, None, Some, map, IfErr, OnOk};
 ghost use Rattle.std.specs.List.{list_any};
 ghost use Rattle.std.specs.Option.{option_map};
+ghost use Rattle.lfs_fs.specs.Sound.{IsSound};
 ghost use Rattle.lfs_fs.specs.Tree.{node};
 ghost use Rattle.lfs_command.specs.AskedFor.{named_command};
 ghost use Rattle.lfs_command.specs.Command.{Grow, Mkdir, Mv, Put, Rm, RmAttr, SetAttr};
-ghost use Rattle.lfs_draft.specs.Editable.{NamesRise};
 ghost use Rattle.lfs_command.specs.Verdict.{checks, first_refusal, is_directory, lies_below};
 
 use crate::bare::is_bare;
@@ -19,7 +19,7 @@ use lfs_meta::Attribute;
 /// Whether something may be made at a path: `IsRoot` where it is the root's, else what the walk to it is refused for, else
 /// `Exists` where something is there, else `NameTooLong` where its last name is longer than the limit.
 fn judge_new(outline: &Outline, path: &[&[u8]]) -> Result<(), Refusal>
-    requires { NamesRise outline.now.directories }
+    requires { IsSound outline.now }
     ensures unrefused { OnOk result (first_refusal (checks outline.now (Mkdir (map (λ n. n.now) path.now))) ≡ None) }
     ensures refused { IfErr result (λ r. first_refusal (checks outline.now (Mkdir (map (λ n. n.now) path.now))) ≡ Some r) }
 {
@@ -44,7 +44,7 @@ fn is_directory(entry: Option<&OutlineEntry>) -> bool
 /// `IsADirectory` where a directory is there, else `NameTooLong` where nothing is there and its last name is longer than the
 /// limit, else `FileTooLarge` where the contents are longer than the limit.
 fn judge_put(outline: &Outline, path: &[&[u8]], bytes: &[u8]) -> Result<(), Refusal>
-    requires { NamesRise outline.now.directories }
+    requires { IsSound outline.now }
     ensures unrefused { OnOk result ((most : ℕ) → first_refusal (checks outline.now (Put (map (λ n. n.now) path.now) bytes.now most)) ≡ None) }
     ensures refused { IfErr result (λ r. (most : ℕ) → first_refusal (checks outline.now (Put (map (λ n. n.now) path.now) bytes.now most)) ≡ Some r) }
 {
@@ -64,7 +64,7 @@ fn judge_put(outline: &Outline, path: &[&[u8]], bytes: &[u8]) -> Result<(), Refu
 /// Whether what is at a path may be removed: `IsRoot` where that is the root, else what the walk to it is refused for, else
 /// `NotFound` where nothing is there, else `NotEmpty` where it is a directory that has an entry.
 fn judge_rm(outline: &Outline, path: &[&[u8]]) -> Result<(), Refusal>
-    requires { NamesRise outline.now.directories }
+    requires { IsSound outline.now }
     ensures unrefused { OnOk result (first_refusal (checks outline.now (Rm (map (λ n. n.now) path.now))) ≡ None) }
     ensures refused { IfErr result (λ r. first_refusal (checks outline.now (Rm (map (λ n. n.now) path.now))) ≡ Some r) }
 {
@@ -78,7 +78,7 @@ fn judge_rm(outline: &Outline, path: &[&[u8]]) -> Result<(), Refusal>
 /// Whether an attribute of what is at a path may be set: what the walk there is refused for, else `NotFound` where nothing is
 /// there, else `AttrTooLarge` where the value is longer than the limit.
 fn judge_set_attr(outline: &Outline, path: &[&[u8]], value: &[u8]) -> Result<(), Refusal>
-    requires { NamesRise outline.now.directories }
+    requires { IsSound outline.now }
     ensures unrefused { OnOk result ((kind : ℕ) → first_refusal (checks outline.now (SetAttr (map (λ n. n.now) path.now) kind value.now)) ≡ None) }
     ensures refused { IfErr result (λ r. (kind : ℕ) → first_refusal (checks outline.now (SetAttr (map (λ n. n.now) path.now) kind value.now)) ≡ Some r) }
 {
@@ -99,7 +99,7 @@ fn has_kind(attributes: &[Attribute], kind: u8) -> bool
 /// Whether an attribute of what is at a path may be removed: what the walk there is refused for, else `NotFound` where nothing
 /// is there, else `NoAttr` where it has none of the kind.
 fn judge_rm_attr(outline: &Outline, path: &[&[u8]], kind: u8) -> Result<(), Refusal>
-    requires { NamesRise outline.now.directories }
+    requires { IsSound outline.now }
     ensures unrefused { OnOk result (first_refusal (checks outline.now (RmAttr (map (λ n. n.now) path.now) kind)) ≡ None) }
     ensures refused { IfErr result (λ r. first_refusal (checks outline.now (RmAttr (map (λ n. n.now) path.now) kind)) ≡ Some r) }
 {
@@ -121,7 +121,7 @@ fn lies_below(from: &[&[u8]], to: &[&[u8]]) -> bool
 /// refused for, else `NotFound` where nothing is there, else `IntoItself` where the second lies strictly below the first, else
 /// as `judge_new` has it of the second.
 fn judge_mv(outline: &Outline, from: &[&[u8]], to: &[&[u8]]) -> Result<(), Refusal>
-    requires { NamesRise outline.now.directories }
+    requires { IsSound outline.now }
     ensures unrefused { OnOk result (first_refusal (checks outline.now (Mv (map (λ n. n.now) from.now) (map (λ n. n.now) to.now))) ≡ None) }
     ensures refused { IfErr result (λ r. first_refusal (checks outline.now (Mv (map (λ n. n.now) from.now) (map (λ n. n.now) to.now))) ≡ Some r) }
 {
@@ -151,7 +151,7 @@ fn judge_grow(outline: &Outline, count: u32) -> Result<(), Refusal>
 
 /// Whether a command is refused on an outline, by the first of its checks that refuses; the room that it takes isn't looked at.
 pub fn judge(outline: &Outline, command: &Named<'_>) -> Result<(), Refusal>
-    requires { NamesRise outline.now.directories }
+    requires { IsSound outline.now }
     ensures unrefused { OnOk result (first_refusal (checks outline.now (named_command command.now)) ≡ None) }
     ensures refused { IfErr result (λ r. first_refusal (checks outline.now (named_command command.now)) ≡ Some r) }
 {

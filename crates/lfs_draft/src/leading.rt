@@ -3,8 +3,7 @@
 ghost use Rattle.std.specs.Prelude.{◌≡◌, find, map};
 ghost use Rattle.std.specs.Option.{option_map};
 ghost use Rattle.lfs_fs.specs.Directory.{entries, parts};
-ghost use Rattle.lfs_fs.specs.Sound.{Rise};
-ghost use Rattle.lfs_draft.specs.Editable.{NamesRise};
+ghost use Rattle.lfs_fs.specs.Sound.{IsSound, Rise};
 ghost use Rattle.lfs_command.specs.AskedFor.{named_command};
 ghost use Rattle.lfs_command.specs.DirectoryEdit.{has_name};
 ghost use Rattle.lfs_command.specs.Leading.{leading_pair, pair_in};
@@ -54,7 +53,7 @@ fn pair_in(directory: &OutlineDirectory, name: &[u8]) -> Option<(u32, u32)>
 
 /// The pair of the part that has the entry at a command's path; none where nothing is there.
 pub fn leading_pair(outline: &Outline, command: &Named<'_>) -> Option<(u32, u32)>
-    requires { NamesRise outline.now.directories }
+    requires { IsSound outline.now }
     ensures { result ≡ leading_pair outline.now (named_command command.now) }
 {
     let path = command.path()?;

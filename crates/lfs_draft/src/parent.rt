@@ -2,7 +2,7 @@
 
 ghost use Rattle.std.specs.Prelude.{◌≡◌, None, Some, map, IfOk, IfErr, OnErr, OnOk};
 ghost use Rattle.lfs_command.specs.Parent.{parent_of};
-ghost use Rattle.lfs_draft.specs.Editable.{NamesRise};
+ghost use Rattle.lfs_fs.specs.Sound.{IsSound};
 ghost use Rattle.lfs_law.specs.ParentChecks.{parent_checks};
 ghost use Rattle.lfs_command.specs.Verdict.{first_refusal};
 
@@ -22,7 +22,7 @@ pub(crate) struct Parent<'a> {
 /// Where the last name of a path belongs to: `IsRoot` where the path is the root's, else what the walk to its last name is
 /// refused for.
 pub(crate) fn parent_of<'a>(outline: &Outline, names: &[&'a [u8]]) -> Result<Parent<'a>, Refusal>
-    requires { NamesRise outline.now.directories }
+    requires { IsSound outline.now }
     ensures parent { IfOk result (λ parent. parent_of outline.now (map (λ n. n.now) names.now) ≡ Some (parent.pair, parent.name.now)) }
     ensures unrefused { OnOk result (first_refusal (parent_checks outline.now (map (λ n. n.now) names.now)) ≡ None) }
     ensures refused { IfErr result (λ r. first_refusal (parent_checks outline.now (map (λ n. n.now) names.now)) ≡ Some r) }

@@ -2,9 +2,9 @@
 
 ghost use Rattle.std.specs.Prelude.{◌≡◌, None, Some, map, IfOk, IfErr, OnOk};
 ghost use Rattle.std.specs.Option.{option_map};
+ghost use Rattle.lfs_fs.specs.Sound.{IsSound};
 ghost use Rattle.lfs_fs.specs.Tree.{entry_at, tree};
 ghost use Rattle.lfs_command.specs.Equation.{attributes_of};
-ghost use Rattle.lfs_draft.specs.Editable.{NamesRise};
 ghost use Rattle.lfs_law.specs.ParentChecks.{entry_checks, parent_checks, there_checks};
 ghost use Rattle.lfs_command.specs.Verdict.{first_refusal, last_length};
 
@@ -20,7 +20,7 @@ pub(crate) fn entry_at<'a>(
     outline: &'a Outline,
     names: &[&[u8]],
 ) -> Result<Option<&'a OutlineEntry>, Refusal>
-    requires { NamesRise outline.now.directories }
+    requires { IsSound outline.now }
     ensures at { IfOk result (λ entry. option_map (λ e. e.now) entry ≡ entry_at outline.now (map (λ n. n.now) names.now)) }
     ensures unrefused { OnOk result (first_refusal (parent_checks outline.now (map (λ n. n.now) names.now)) ≡ None) }
     ensures refused { IfErr result (λ r. first_refusal (parent_checks outline.now (map (λ n. n.now) names.now)) ≡ Some r) }
@@ -31,7 +31,7 @@ pub(crate) fn entry_at<'a>(
 
 /// The entry that is at a path: refused as `entry_at` is, else `NotFound` where there is none.
 pub fn entry_there<'a>(outline: &'a Outline, names: &[&[u8]]) -> Result<&'a OutlineEntry, Refusal>
-    requires { NamesRise outline.now.directories }
+    requires { IsSound outline.now }
     ensures there { IfOk result (λ entry. entry_at outline.now (map (λ n. n.now) names.now) ≡ Some entry.now) }
     ensures unrefused { OnOk result (first_refusal (entry_checks outline.now (map (λ n. n.now) names.now)) ≡ None) }
     ensures refused { IfErr result (λ r. first_refusal (entry_checks outline.now (map (λ n. n.now) names.now)) ≡ Some r) }
@@ -48,7 +48,7 @@ pub(crate) fn attributes_at<'a>(
     outline: &'a Outline,
     names: &[&[u8]],
 ) -> Result<&'a [Attribute], Refusal>
-    requires { NamesRise outline.now.directories }
+    requires { IsSound outline.now }
     ensures there { IfOk result (λ attributes. option_map attributes_of (tree outline.now (map (λ n. n.now) names.now)) ≡ Some attributes.now) }
     ensures unrefused { OnOk result (first_refusal (there_checks outline.now (map (λ n. n.now) names.now)) ≡ None) }
     ensures refused { IfErr result (λ r. first_refusal (there_checks outline.now (map (λ n. n.now) names.now)) ≡ Some r) }

@@ -42,7 +42,7 @@ use Rattle.lfs_edit.specs.Carried.{IsHoldable, IsJudged, IsLed, IsOutlined, IsRe
 use Rattle.lfs_edit.specs.CarryingLaws.{CarryingLaws}
 use Rattle.lfs_command.specs.Clean.{IsClean}
 use Rattle.lfs_command.specs.Command.{Asked, Command, Grow, Mkdir, Mv, Put, Rm, RmAttr, SetAttr, Spells}
-use Rattle.lfs_draft.specs.Editable.{IsEditable, NamesRise}
+use Rattle.lfs_draft.specs.Editable.{IsEditable}
 use Rattle.lfs_command.specs.Edited.{edited}
 use Rattle.lfs_law.specs.EditedOutline.{edited_outline}
 use Rattle.lfs_command.specs.Growth.{grown}
@@ -116,10 +116,6 @@ holdable marks by_links few d disk v sound holds =
 -- the outline of such a volume is sound
 pub outline_sound : OutlinesAreSound → (v o : Volume) → IsOutlined v o → IsSound o
 outline_sound sound v o is = subst IsSound (sym is.outline) (sound v is.holdable.sound)
-
--- the names of each of its directories rise
-pub names_rise : OutlinesAreSound → (v o : Volume) → IsOutlined v o → NamesRise o.directories
-names_rise sound v o is = (outline_sound sound v o is).order
 
 -- no part of it is marked
 pub clean_outline : (v o : Volume) → IsOutlined v o → IsClean o

@@ -10,7 +10,6 @@ use Rattle.lfs_fs.specs.SoundOutlines.{OutlinesAreSound}
 use Rattle.lfs_fs.specs.Volume.{Volume}
 use Rattle.lfs_command.specs.Accepted.{Follows, IsAccepted}
 use Rattle.lfs_draft.specs.LeastSupplies.{made_blocks}
-use Rattle.lfs_draft.specs.Editable.{NamesRise}
 use Rattle.lfs_edit.specs.Carried.{IsReady, supplies_of}
 use Rattle.lfs_edit.specs.CarryingLaws.{CarryingLaws}
 use Rattle.lfs_cut.specs.Chosen.{HasPairsOnce}
@@ -77,9 +76,9 @@ known_ready laws v c used blocks o ready = record {
     few : length (changed_parts v w) ≤ 2
     few = laws.few v c (supplies_of v c) accepted ready.holdable.clean
 
--- the names of its directories rise
-pub ready_rise : (laws : CarryingLaws) → OutlinesAreSound → (v : Volume) (c : Command) (used : List Bool) (blocks : List ℕ) (o : Volume)
-    → IsReady v c used blocks o → NamesRise o.directories
-ready_rise laws sound v c used blocks o ready =
+-- it is sound
+pub ready_sound : (laws : CarryingLaws) → OutlinesAreSound → (v : Volume) (c : Command) (used : List Bool) (blocks : List ℕ) (o : Volume)
+    → IsReady v c used blocks o → IsSound o
+ready_sound laws sound v c used blocks o ready =
     let left = (known_ready laws v c used blocks o ready).left in
-    subst (λ (x : Volume). NamesRise x.directories) (sym left.2) (sound left.0 left.1).order
+    subst IsSound (sym left.2) (sound left.0 left.1)

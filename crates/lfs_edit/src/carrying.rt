@@ -23,7 +23,7 @@ ghost use Rattle.lfs_command.specs.declared.refusal.Refusal.TheVariants.{Memory}
 ghost use Rattle.lfs_law.specs.EditedOutline.{edited_outline};
 ghost use Rattle.lfs_law.specs.Lengthened.{with_count};
 ghost use Rattle.lfs_law.specs.TablesFollow.{LeadsToTable};
-ghost use Rattle.lfs_draft.specs.Editable.{IsEditable, NamesRise};
+ghost use Rattle.lfs_draft.specs.Editable.{IsEditable};
 ghost use Rattle.lfs_draft.specs.LeastSupplies.{least_supplies};
 ghost use Rattle.lfs_cut.specs.Chosen.{HasPairsOnce};
 ghost use Rattle.lfs_cut.specs.Front.{IsCleanFrom};
@@ -134,9 +134,9 @@ fn cut_over(
 }
 
 /// The pair that leads: that of the part that had the entry at the command's path before, else of the one that has it in the edited
-/// outline, the names of which rise.
+/// outline, which is sound.
 fn leader(before: Option<(u32, u32)>, outline: &Outline, command: &Named<'_>) -> Option<(u32, u32)>
-    requires { NamesRise outline.now.directories }
+    requires { IsSound outline.now }
     ensures { result ≡ option_or before (leading_pair outline.now (named_command command.now)) }
 {
     match before {

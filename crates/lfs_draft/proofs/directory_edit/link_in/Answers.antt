@@ -9,7 +9,7 @@ use Rattle.lfs_command.specs.EntryEdit.{place}
 use Rattle.lfs_draft.proofs.LinkedParts.{linked_first, linked_later}
 use Rattle.lfs_fs.specs.Directory.{entries}
 use Rattle.lfs_fs.specs.Sound.{Rise}
-use Rattle.lfs_draft.proofs.LastNames.{rise_right}
+use Rattle.lfs_draft.proofs.LastNames.{rise_left, rise_right}
 use Rattle.lfs_law.proofs.DirectoryEdits.{entries_of}
 use Rattle.lfs_draft.proofs.directory_edit.link_in.Goals as goal
 
@@ -39,6 +39,14 @@ returns-in_ok-link_among-clause-linked c =
     ∙ ap (λ (ps : OutlineParts). link_in c.args.entry (record { first = ps.first; more = ps.more.items }))
     c.deref_mut-else-belongs_first.ensures.value
     ∙ ap (link_in c.args.entry) c.directory.view_is
+
+pub place_in-requires : goal.place_in-requires
+place_in-requires c =
+    let parts = c.deref_mut.result.now in
+    rise_left parts.first.entries (entries_of parts.more.items)
+    (subst (λ (ps : OutlineParts). Rise (entries (record { first = ps.first; more = ps.more.items })))
+    (sym c.deref_mut.ensures.value)
+    (subst (λ (d : Directory). Rise (entries d)) (sym c.directory.view_is) c.requires))
 
 pub link_among-requires-clause-rise : goal.link_among-requires-clause-rise
 link_among-requires-clause-rise c =

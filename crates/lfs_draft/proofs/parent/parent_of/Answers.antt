@@ -1,5 +1,5 @@
 -- The walk goes to the directory of the last name.
-use Rattle.std.proofs.Common.{◌≡◌, List, map, ap, sym, ◌∙◌, Bor}
+use Rattle.std.proofs.Common.{◌≡◌, List, map, ap, subst, sym, ◌∙◌, Bor}
 use Rattle.std.proofs.lemmas.Result.{err_from_is_err_and}
 use Rattle.lfs_meta.specs.Name.{Name}
 use Rattle.lfs_fs.specs.Directory.{Directory}
@@ -9,8 +9,15 @@ use Rattle.lfs_fs.specs.Volume.{Volume}
 use Rattle.lfs_law.specs.PairWalk.{pair_at}
 use Rattle.lfs_law.specs.WalkRefusal.{walk_all}
 use Rattle.lfs_law.proofs.ParentSteps.{names_are, is_parent, unrefused, refused}
+use Rattle.lfs_draft.specs.Editable.{BeginOnce}
+use Rattle.lfs_draft.proofs.EditableLemmas.{begin_once}
 use Rattle.lfs_draft.proofs.NoParent.{no_parent}
 use Rattle.lfs_draft.proofs.parent.parent_of.Goals as goal
+
+pub walk-requires-clause-once : goal.walk-requires-clause-once
+walk-requires-clause-once c =
+    subst BeginOnce (sym (c.deref.ensures.value ∙ ap (λ (v : Volume). v.directories) c.outline.view_is))
+    (begin_once c.args.outline.now c.requires)
 
 pub returns-in_err-pair-clause-refused : goal.returns-in_err-pair-clause-refused
 returns-in_err-pair-clause-refused c =

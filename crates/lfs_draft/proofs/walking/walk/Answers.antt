@@ -5,8 +5,8 @@ use Rattle.lfs_draft.proofs.walking.walk.Goals as goal
 
 pub each-preserved : goal.each-preserved
 each-preserved c = record {
-  leads = leads_more c.args.directories.now c.each.pair c.in_ok-pair.pair c.args.names.now c.each.name-index _
-      c.each-test.true c.in_ok-pair.ensures.there ∙ c.each.invariant.leads;
-  refuses = refuses_more c.args.directories.now c.each.pair c.in_ok-pair.pair c.args.names.now c.each.name-index _
-      c.each-test.true c.in_ok-pair.ensures.there ∙ c.each.invariant.refuses;
+  leads = leads_more c.args.directories.now c.each.here.pair c.in_ok-here.here.pair c.args.names.now c.each.name-index _
+      c.each-test.true c.in_ok-here.ensures.there ∙ c.each.invariant.leads;
+  refuses = refuses_more c.args.directories.now c.each.here.pair c.in_ok-here.here.pair c.args.names.now c.each.name-index _
+      c.each-test.true c.in_ok-here.ensures.there ∙ c.each.invariant.refuses;
 }

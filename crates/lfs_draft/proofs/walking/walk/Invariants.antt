@@ -7,8 +7,8 @@ use Rattle.lfs_draft.proofs.walking.walk.Given as goal
 
 abbrev pub invariant-each : goal.invariant-each
 invariant-each l = record {
-  leads : pair_at l.directories l.pair (map (λ n. n.now) (drop l.name-index l.names))
+  leads : pair_at l.directories l.here.pair (map (λ n. n.now) (drop l.name-index l.names))
       ≡ pair_at l.directories root (map (λ n. n.now) l.names);
-  refuses : walk_all l.directories l.pair (map (λ n. n.now) (drop l.name-index l.names))
+  refuses : walk_all l.directories l.here.pair (map (λ n. n.now) (drop l.name-index l.names))
       ≡ walk_all l.directories root (map (λ n. n.now) l.names);
 }

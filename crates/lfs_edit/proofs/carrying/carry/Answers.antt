@@ -7,12 +7,12 @@ use Rattle.lfs_command.specs.AskedFor.{named_command}
 use Rattle.lfs_command.specs.Clean.{clean}
 use Rattle.lfs_edit.specs.Carried.{IsCarriedOnOutline, IsJudged}
 use Rattle.lfs_edit.proofs.CarryingLemmas.{carried_out}
-use Rattle.lfs_edit.proofs.JudgedLemmas.{judged_on, names_rise}
+use Rattle.lfs_edit.proofs.JudgedLemmas.{judged_on, outline_sound}
 use Rattle.lfs_edit.proofs.TableLemmas.{table_behind}
 use Rattle.lfs_edit.proofs.carrying.carry.Goals as goal
 
 pub judge-requires : goal.judge-requires
-judge-requires c = names_rise c.outlines_are_sound.ensures c.requires.outline.0 c.args.outline.now c.requires.outline.1
+judge-requires c = outline_sound c.outlines_are_sound.ensures c.requires.outline.0 c.args.outline.now c.requires.outline.1
 
 pub returns-in_err-judge-clause-refused : goal.returns-in_err-judge-clause-refused
 returns-in_err-judge-clause-refused c =

@@ -11,8 +11,8 @@ use Rattle.lfs_command.specs.AskedFor.{named_command}
 use Rattle.lfs_command.specs.Verdict.{first_refusal}
 use Rattle.lfs_command.specs.Ordered.{leader}
 use Rattle.lfs_edit.specs.Carried.{IsCutReady, supplies_of}
-use Rattle.lfs_edit.proofs.JudgedLemmas.{clean_outline, contents_short, editable, edited_known, led, names_rise, unweighed_leads}
-use Rattle.lfs_edit.proofs.ReadyLemmas.{ready_rise}
+use Rattle.lfs_edit.proofs.JudgedLemmas.{clean_outline, contents_short, editable, edited_known, led, outline_sound, unweighed_leads}
+use Rattle.lfs_edit.proofs.ReadyLemmas.{ready_sound}
 use Rattle.lfs_edit.proofs.carrying.carry_over.Goals as goal
 
 pub edit_least-requires-clause-editable : goal.edit_least-requires-clause-editable
@@ -90,7 +90,7 @@ cut_ready-requires-clause-front c =
     (clean_outline v c.args.outline.now c.requires.judged.1.is))
 
 pub leading_pair-before-requires : goal.leading_pair-before-requires
-leading_pair-before-requires c = names_rise c.outlines_are_sound.ensures c.requires.judged.0 c.args.outline.now c.requires.judged.1.is
+leading_pair-before-requires c = outline_sound c.outlines_are_sound.ensures c.requires.judged.0 c.args.outline.now c.requires.judged.1.is
 
 pub leader-leading-requires : goal.leader-leading-requires
 leader-leading-requires c =
@@ -103,7 +103,7 @@ leader-leading-requires c =
     c.requires.table c.in_ok-edit_least.ensures in
     let made : c.data_blocks.result + c.directory_blocks.result ≡ made_blocks v command =
     omega (arith, c.data_blocks.ensures v size, c.directory_blocks.ensures) in
-    ready_rise c.carrying_laws.ensures c.outlines_are_sound.ensures v command used c.in_ok-blocks.blocks.items o
+    ready_sound c.carrying_laws.ensures c.outlines_are_sound.ensures v command used c.in_ok-blocks.blocks.items o
     (led v command used o all.is c.in_ok-blocks.blocks.items (c.data_blocks.result + c.directory_blocks.result)
     (leader v command (supplies_of v command)) all.known made c.in_ok-blocks.ensures.unrefused c.in_ok-blocks.ensures.blocks refl).ready
 

@@ -6,7 +6,7 @@ use Rattle.lfs_edit.proofs.TableLemmas.{outline_sound}
 use Rattle.lfs_edit.proofs.carrying_out.carry_out.Goals as goal
 
 pub judge-requires : goal.judge-requires
-judge-requires c = (outline_sound c.outlines_are_sound.ensures c.args.image.now.disk c.args.outline.now c.requires.outline).order
+judge-requires c = outline_sound c.outlines_are_sound.ensures c.args.image.now.disk c.args.outline.now c.requires.outline
 
 pub returns-in_err-judge-clause-refused : goal.returns-in_err-judge-clause-refused
 returns-in_err-judge-clause-refused c =

@@ -14,9 +14,9 @@ outline_of_mount d m is = record { volume = is.volume; holds = is.holds; sound =
 
 pub judge-requires : goal.judge-requires
 judge-requires c =
-    (outline_sound c.outlines_are_sound.ensures c.args.image.now.disk c.outline.result.now
+    outline_sound c.outlines_are_sound.ensures c.args.image.now.disk c.outline.result.now
     (subst (IsOutlineOf c.args.image.now.disk) (sym c.outline.ensures)
-    (outline_of_mount c.args.image.now.disk c.args.mounted.now c.requires.mounted))).order
+    (outline_of_mount c.args.image.now.disk c.args.mounted.now c.requires.mounted))
 
 pub returns-in_err-judge-clause-refused : goal.returns-in_err-judge-clause-refused
 returns-in_err-judge-clause-refused c =

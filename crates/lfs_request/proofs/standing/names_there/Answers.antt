@@ -6,8 +6,8 @@ use Rattle.std.proofs.lemmas.Bool.{eqb-true, eqb-false}
 use Rattle.std.proofs.lemmas.Result.{err_from_is_err_and}
 use Rattle.lfs_command.specs.Verdict.{first_refusal}
 use Rattle.lfs_fs.specs.Path.{Path}
+use Rattle.lfs_fs.specs.Sound.{IsSound}
 use Rattle.lfs_fs.specs.Tree.{entry_at}
-use Rattle.lfs_draft.specs.Editable.{NamesRise}
 use Rattle.lfs_fs.specs.Volume.{Volume}
 use Rattle.lfs_law.specs.ParentChecks.{entry_checks}
 use Rattle.lfs_meta.specs.Name.{Name}
@@ -16,8 +16,7 @@ use Rattle.lfs_request.proofs.standing.names_there.Goals as goal
 
 pub entry_there-requires : goal.entry_there-requires
 entry_there-requires g c =
-    subst (λ (o : Volume). NamesRise o.directories) (sym (c.outline.ensures ∙ c.requires.outline))
-    (c.outlines_are_sound.ensures c.requires.volume c.requires.sound).order
+    subst IsSound (sym (c.outline.ensures ∙ c.requires.outline)) (c.outlines_are_sound.ensures c.requires.volume c.requires.sound)
 
 pub returns-then-is_empty-clause-there : goal.returns-then-is_empty-clause-there
 returns-then-is_empty-clause-there g c =

@@ -15,10 +15,10 @@ use Rattle.lfs_meta.specs.Name.{Name}
 use Rattle.lfs_fs.specs.Entry.{Entry, Body}
 use Rattle.lfs_fs.specs.Path.{Path}
 use Rattle.lfs_fs.specs.RowShown.{HasBlocks, shown_body}
+use Rattle.lfs_fs.specs.Sound.{IsSound}
 use Rattle.lfs_fs.specs.Tree.{entry_at}
 use Rattle.lfs_fs.specs.Volume.{Volume}
 use Rattle.lfs_law.specs.ParentChecks.{entry_checks}
-use Rattle.lfs_draft.specs.Editable.{NamesRise}
 use Rattle.lfs_command.specs.Verdict.{first_refusal}
 use Rattle.lfs_step.specs.Contents.{IsContents}
 use Rattle.lfs_step.specs.Sent.{SendsContents}
@@ -37,8 +37,8 @@ returns-then-is_empty-clause-refused g c =
 
 pub entry_there-requires : goal.entry_there-requires
 entry_there-requires g c =
-    subst (λ (o : Volume). NamesRise o.directories) (sym (c.outline.ensures ∙ c.requires.mounted.outline))
-    (c.outlines_are_sound.ensures c.requires.mounted.volume c.requires.mounted.sound).order
+    subst IsSound (sym (c.outline.ensures ∙ c.requires.mounted.outline))
+    (c.outlines_are_sound.ensures c.requires.mounted.volume c.requires.mounted.sound)
 
 pub returns-in_err-entry-clause-refused : goal.returns-in_err-entry-clause-refused
 returns-in_err-entry-clause-refused g c =
