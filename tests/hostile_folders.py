@@ -1,8 +1,10 @@
 #!/usr/bin/env python3
 """Packs, syncs, extracts and salvages while another thread puts links in the place of folders: nothing outside is read or written. Does
 the same with folders that are deep and paths that are longer than the system takes at once."""
+import ctypes
 import os
 import pathlib
+import random
 import resource
 import subprocess
 import sys
@@ -13,6 +15,9 @@ from support.folder import contents, run_scenes
 from support.littlefs import Reader
 from support.logs import SOFT, directory, file, image, log, superblock, tail
 
+# Of renameat2: where names begin, and that two of them are exchanged.
+AT_FDCWD, RENAME_EXCHANGE = -100, 2
+
 # How many seconds each command is run for while folders are swapped.
 SECONDS = 6
 
@@ -21,11 +26,13 @@ OUTSIDE, INSIDE = b"what stands outside " * 9, b"what stands inside " * 9
 
 
 class Swapping:
-    """A thread that puts a link in a folder's place and back, time and again, as long as the folder is there."""
+    """A thread that puts a link in a folder's place and back, time and again, as long as the folder is there: in one step each, or if the
+    system has none, in two."""
 
     def __init__(self, place, aside, link):
         self.place, self.aside, self.link = place, aside, link
-        self.has_ended, self.turns = False, 0
+        self.exchange = getattr(ctypes.CDLL(None, use_errno=True), "renameat2", None)
+        self.has_ended, self.turns, self.chance = False, 0, random.Random(7)
         self.thread = threading.Thread(target=self.swap)
 
     def __enter__(self):
@@ -38,18 +45,34 @@ class Swapping:
 
     def swap(self):
         while not self.has_ended:
-            if self.moves(self.place, self.aside):
-                self.moves(self.link, self.place)
-                self.moves(self.place, self.link)
-                self.moves(self.aside, self.place)
+            if self.exchanges():
+                self.waits()
+                self.exchanges()
                 self.turns += 1
+            else:
+                self.turns += self.moves_both()
+            self.waits()
 
-    def moves(self, old, new):
-        """Gives something another name; answers whether it did."""
+    def waits(self):
+        """Leaves a little time."""
+        time.sleep(self.chance.choice([0, 0.0001, 0.0005]))
+
+    def exchanges(self):
+        """Exchanges the names of link and folder; answers whether it did."""
+        names = os.fsencode(self.place), os.fsencode(self.link)
+        return bool(self.exchange) and self.exchange(AT_FDCWD, names[0], AT_FDCWD, names[1], RENAME_EXCHANGE) == 0
+
+    def moves_both(self):
+        """Moves the folder away and the link in its place, and both back; answers whether the folder was there."""
         try:
-            os.rename(old, new)
+            os.rename(self.place, self.aside)
         except OSError:
             return False
+        for old, new in (self.link, self.place), (self.place, self.link), (self.aside, self.place):
+            try:
+                os.rename(old, new)
+            except OSError:
+                pass
         return True
 
 
@@ -58,23 +81,18 @@ def cleared(*places):
     subprocess.run(["rm", "-rf", *map(str, places)], check=True)
 
 
-def outside_of(folder):
-    """A folder with a file that nothing is to lead to."""
-    outside = folder.image.with_name("outside")
-    (outside / "e").mkdir(parents=True)
-    for name in "f", "g", "e/f":
-        (outside / name).write_bytes(OUTSIDE)
-    return outside
-
-
-def source_of(folder):
-    """A folder that is read, with a folder that is swapped."""
-    place = folder.image.with_name("src")
-    for name in "a", "d/e", "z":
-        (place / name).mkdir(parents=True)
-    for name in "d/f", "d/g", "d/e/f", "z/f":
-        (place / name).write_bytes(INSIDE)
+def filled(place, held):
+    """Makes a folder of many files with these bytes, some of them in a folder."""
+    (place / "e").mkdir(parents=True)
+    for n in range(60):
+        for name in f"f{n:02}", f"e/f{n:02}":
+            (place / name).write_bytes(held)
     return place
+
+
+def outside_of(folder):
+    """A folder that nothing is to lead to, with the names of the one that is read."""
+    return filled(folder.image.with_name("outside"), OUTSIDE)
 
 
 def until(seconds):
@@ -87,13 +105,14 @@ def until(seconds):
 
 def swapped_while_read(folder):
     """What is packed and synced is read of the folder alone."""
-    outside, place, room = outside_of(folder), source_of(folder), folder.image.parent
+    outside, room = outside_of(folder), folder.image.parent
+    place = filled(room / "src/d", INSIDE).parent
     for name in "d", "d/e":
         link, aside = room / "link", room / "aside"
         link.symlink_to(outside / "e" if name == "d/e" else outside)
-        ended = folder.run("format -b 512 --count 64 a.img")
+        ended = folder.run("format -b 512 --count 256 a.img")
         folder.check("format", ended == (0, "", b""), ended)
-        for words in "pack -b 512 --count 64 b.img src", "sync -b 512 a.img src":
+        for words in "pack -b 512 --count 256 b.img src", "sync -b 512 a.img src":
             statuses, escapes = set(), 0
             with Swapping(place / name, aside, link) as swapping:
                 for _ in until(SECONDS / 4):

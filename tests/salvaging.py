@@ -29,8 +29,8 @@ def made_in(place):
 
 
 def without_numbers(names):
-    """The names on a file's way, the last one without the numbers that stand behind what was refused."""
-    return names[:-1] + (re.sub(rb"~[0-9]+\.[0-9]+\Z", b"", names[-1]),)
+    """The names on a file's way, without the numbers that stand behind what was refused."""
+    return tuple(re.sub(rb"~[0-9]+\.[0-9]+\Z", b"", name) for name in names)
 
 
 def cleared(place):
@@ -203,7 +203,7 @@ def calls_that_fail(folder):
                 is_told = status == 4 and told.startswith(("lfsed: 60 CannotRead\n", "lfsed: 61 CannotWrite\n"))
                 folder.check(f"{call} {at}", (is_told or status == 3) and not printed, (status, told))
                 numbered = [names for names in found if names not in whole]
-                folder.check(f"{call} {at}: one name has its numbers", len(numbered) <= (call == "open" and status == 3), numbered)
+                folder.check(f"{call} {at}: one name has its numbers", len(numbered) <= (call in ("open", "statx") and status == 3), numbered)
                 found = {without_numbers(names): held for names, held in found.items()}
                 is_front = all(whole.get(names, b"-").startswith(held) for names, held in found.items())
                 folder.check(f"{call} {at}: a beginning", is_front and (status == 4 or found == whole), found)

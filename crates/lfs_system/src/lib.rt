@@ -3,8 +3,11 @@
 
 mod files;
 mod folders;
+mod one_line;
 mod open_folders;
+mod plain;
 mod standard;
 mod terminal;
 
+pub use one_line::{OneLine, has_control};
 pub use terminal::Terminal;

@@ -6,6 +6,7 @@ use crate::files::{
 };
 use crate::folders::{is_below, is_other};
 use crate::open_folders::OpenFolders;
+use crate::plain::Plain;
 use crate::standard::{Closed, is_closed};
 use lfs_block::MAX_IMAGE_LENGTH;
 use lfs_host::{
@@ -136,12 +137,12 @@ impl<'a> Terminal<'a> {
         ReadFault::CannotRead
     }
 
-    /// Writes a text to standard error, in JSON by its alternate form.
+    /// Writes a text to standard error, in JSON by its alternate form, otherwise without control characters.
     fn write_report<D: Display + Drop>(&self, text: D) {
         let _ = if self.in_json {
             self.rt.eprint(format_args!("{text:#}"))
         } else {
-            self.rt.eprint(text)
+            self.rt.eprint(Plain { text })
         };
     }
 

@@ -14,7 +14,7 @@ ghost use Rattle.lfsed.specs.Words.{EndsError, EndsExplained, EndsFound, EndsLin
 
 use crate::explaining::{list, pages};
 use crate::json_word::plain;
-use crate::tips::retold;
+use crate::tips::told_of;
 use crate::usage_line::UsageLine;
 use clap::error::ErrorKind;
 use clap::{ArgMatches, Error};
@@ -31,6 +31,7 @@ use lfs_open::{list_images, stated_size};
 use lfs_report::report_digits;
 use lfs_request::Fault;
 use lfs_serve::served;
+use lfs_system::OneLine;
 use lfs_texts::explained;
 use std::alloc::{AllocError, Global};
 use std::convert::AsStr;
@@ -83,7 +84,7 @@ fn done_dashed<H: Host, W: AsStr>(
         Err(again) if again.kind() == ErrorKind::OutOfMemory => {
             Err(Fault::Refused(Refusal::Memory))
         }
-        _ => refused(alloc, host, error),
+        _ => refused(alloc, host, words, error),
     }
 }
 
@@ -132,10 +133,24 @@ fn used_wrongly<H: Host>(host: &mut H, usage_error: UsageError<'_>) -> Result<u8
     {
         return Ok(report_digits(host, command, reason, digits));
     }
-    host.report(UsageLine {
-        text: format_args!("error: {usage_error}{MORE}"),
-    });
+    report_usage(host, usage_error);
     Ok(USAGE)
+}
+
+/// Tells why the words of a command say no request. What names none of them has lines of its own.
+fn report_usage<H: Host>(host: &mut H, usage_error: UsageError<'_>)
+    ensures kept { H.known host.new ≡ H.known host.old }
+{
+    if let UsageError::NoCount(_) | UsageError::TwoCounts { .. } = usage_error {
+        host.report(UsageLine {
+            text: format_args!("error: {usage_error}{MORE}"),
+        });
+        return;
+    }
+    let said = OneLine { text: usage_error };
+    host.report(UsageLine {
+        text: format_args!("error: {said}{MORE}"),
+    });
 }
 
 /// What the image states as its block size, and the one that it is compared with, or made of, where the words say `auto` for it.
@@ -182,6 +197,7 @@ fn explain<H: Host>(
         return printed(host, list(alloc, form)?.as_str());
     };
     if let Some(fault) = faults.iter().find(|fault| explained(fault).is_none()) {
+        let fault = OneLine { text: fault };
         host.report(UsageLine {
             text: format_args!(
                 "error: invalid value '{fault}' for '[FAULT]...': no fault has this number or name{MORE}"
@@ -201,11 +217,16 @@ fn printed<H: Host>(host: &mut H, text: &str) -> Result<u8, Fault>
 }
 
 /// Tells what is wrong with the words, or the help that they ask for.
-fn refused<H: Host>(alloc: Global, host: &mut H, error: Error) -> Result<u8, Fault>
+fn refused<H: Host, W: AsStr>(
+    alloc: Global,
+    host: &mut H,
+    words: &[W],
+    error: Error,
+) -> Result<u8, Fault>
     ensures ended { EndsError (kind_of error) (H.known host.old) (H.known host.new) (ended_with result) }
 {
     if error.use_stderr() {
-        match retold(alloc, &error) {
+        match told_of(alloc, words, &error) {
             Ok(text) => host.report(UsageLine {
                 text: text.as_str(),
             }),
