@@ -9,6 +9,9 @@ from support.folder import contents, fill, run_scenes
 from support.logs import directory, file, image, log, superblock, tail, SOFT
 from support.refusing import Refusing
 
+# What is told of an image of which a host can't have a name.
+NO_NAME = "lfsed: 63 HostName\nlfsed: a.img: a name isn't UTF-8 or holds a zero byte; salvage saves it under another name\n"
+
 
 def holds(place):
     """What a folder holds: its paths, with the bytes of files."""
@@ -55,7 +58,7 @@ def what_is_refused(folder):
     is_refused(folder, "no superblock", 3, "lfsed: 3 NoValidCommit\nlfsed: a.img: blocks 0 and 1 (/): neither holds a whole commit\n")
     for name in b"\xff", b"a\0b":
         folder.be(image(512, 8, {0: log(1, superblock(512, 8) + file(1, b"A", b"first") + file(2, name))}), 0)
-        is_refused(folder, f"the name {name}", 4, "lfsed: 63 HostName\n")
+        is_refused(folder, f"the name {name}", 4, NO_NAME)
     folder.run("format -b 512 --count 8 a.img")
     is_refused(folder, "another geometry", 3, "lfsed: 11 Geometry\nlfsed: a.img: its superblock states 8 blocks of 512 bytes\n",
                "extract -b 256 a.img made")
@@ -134,7 +137,7 @@ def parts_that_are_refused(folder):
         folder.be(image(512, 8, blocks), 0)
         is_part(folder, "-b 512 a.img made /d", {pathlib.Path("f"): b"in d"})
         for path in "", " /", " /e":
-            is_refused(folder, f"the name {name} at{path}", 4, "lfsed: 63 HostName\n", f"extract -b 512 a.img made{path}")
+            is_refused(folder, f"the name {name} at{path}", 4, NO_NAME, f"extract -b 512 a.img made{path}")
 
 
 def what_is_not_written(folder):

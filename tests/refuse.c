@@ -1,6 +1,6 @@
 /* Refuses one call of a program that is run with this library loaded before the C library: of the requests for memory, or of
-   the calls of the name that FAIL_CALL says, the one whose number FAIL_AT says. Where there was such a call, the file that
-   HIT_FILE names is made at the end. */
+   the calls of the name that FAIL_CALL says, the one whose number FAIL_AT says, with the error FAIL_ERROR or EIO. Where there
+   was such a call, the file that HIT_FILE names is made at the end. */
 #define _GNU_SOURCE
 #include <dlfcn.h>
 #include <errno.h>
@@ -14,11 +14,14 @@
 static long left = -1;
 static const char *name;
 static int hit;
+static int wrong = EIO;
 
 __attribute__((constructor)) static void begin(void) {
   const char *at = getenv("FAIL_AT");
   left = at ? atol(at) : 0;
   name = getenv("FAIL_CALL");
+  const char *error = getenv("FAIL_ERROR");
+  wrong = error ? atoi(error) : EIO;
 }
 
 __attribute__((destructor)) static void end(void) {
@@ -37,7 +40,7 @@ static int is_counted_out(int error) {
 
 static int refused(void) { return !name && is_counted_out(ENOMEM); }
 
-static int fails(const char *call) { return name && !strcmp(name, call) && is_counted_out(EIO); }
+static int fails(const char *call) { return name && !strcmp(name, call) && is_counted_out(wrong); }
 
 /* A call of the C library that may be told to fail. */
 #define CALL(type, call, failure, parameters, arguments)                                                                       \

@@ -8,6 +8,7 @@ import struct
 import sys
 import tempfile
 import time
+from errno import EILSEQ, EINVAL, EIO
 
 from support.folder import contents, run_scenes
 from support.later import LATER, stated, written
@@ -18,6 +19,8 @@ from support.salvage import Salvaged, Unharmed
 from support.scattering import Scattered
 
 SIZE = 512
+# With these errors a system refuses a name.
+OF_NAMES = EILSEQ, EINVAL
 
 
 def made_in(place):
@@ -61,6 +64,8 @@ def saved(folder, what, data, words="salvage -b 512 a.img made"):
 SHARE = moved(bytes.fromhex("0000f04f0200000003000000"))
 ETC = directory(1, b"etc", (2, 3)) + tail(SOFT, (2, 3))
 UNREAD = "neither holds a whole commit"
+# Files that take each name that entry 4 might get, if it is one of name `a`.
+TAKEN = file(1, b"a", b"one") + file(2, b"a~0.4", b"two") + file(3, b"~0.4", b"three")
 
 
 def pointing(pointers, held):
@@ -120,6 +125,20 @@ DAMAGED = [
     ("a name of a file and of directories", file(1, b"a", b"one") + directory(2, b"a", (2, 3)) + directory(3, b"a", (5, 4)) + tail(SOFT, (2, 3)),
      {2: file(0, b"f", b"two") + file(1, b"f", b"three") + tail(SOFT, (5, 4)), 5: file(0, b"g", b"four")}, "13 OrderFault", False, [],
      {"a": b"one", "a~0.2/f": b"two", "a~0.2/f~2.1": b"three", "a~0.3/g": b"four"}),
+    ("a word that is too long", directory(1, b"etc", (2, 3)) + file(2, 64 * b"\xff", b"one") + tail(SOFT, (2, 3)), {}, "3 NoValidCommit", True,
+     [f"blocks 2 and 3 (/etc): {UNREAD}"], {"~0.2": b"one"}),
+    ("a name with numbers that is another's", file(1, b"a", b"one") + file(2, b"a~0.3", b"two") + file(3, b"a", b"three"), {},
+     "13 OrderFault", False, [], {"a": b"one", "a~0.3": b"two", "~0.3": b"three"}),
+    ("names that are all another's", TAKEN + file(4, b"a", b"four") + file(5, b"z", b"five"), {}, "13 OrderFault", True,
+     ["/a: the host refuses each name for it"], {"a": b"one", "a~0.4": b"two", "~0.4": b"three", "z": b"five"}),
+    ("names of a directory that are all another's", TAKEN + directory(4, b"a", (2, 3)) + tail(SOFT, (2, 3)),
+     {2: file(0, b"a", b"four") + file(1, b"f", b"five")}, "13 OrderFault", True, ["/a: the host refuses each name for it"],
+     {"a": b"one", "a~0.4": b"two", "~0.4": b"three", "a~2.0": b"four", "f": b"five"}),
+    ("an empty directory whose names are all another's", TAKEN + directory(4, b"a", (2, 3)) + tail(SOFT, (2, 3)), {2: []}, "13 OrderFault",
+     True, ["/a: the host refuses each name for it"], {"a": b"one", "a~0.4": b"two", "~0.4": b"three"}),
+    ("a chain under names that are all another's", TAKEN + chained(4, b"a", 5, 100) + chained(5, b"b", 5, 100), {5: contents(512)},
+     "13 OrderFault", True, ["/a: the host refuses each name for it", "/b: is the same file as /a, which isn't saved"],
+     {"a": b"one", "a~0.4": b"two", "~0.4": b"three"}),
     ("a word that is another's name", file(1, b"\\xff", b"one") + directory(2, b"etc", (2, 3)) + file(3, b"\xff", b"two") + tail(SOFT, (2, 3)),
      {}, "3 NoValidCommit", True, [f"blocks 2 and 3 (/etc): {UNREAD}"], {"\\xff": b"one", "\\xff~0.3": b"two"}),
     ("a name that is taken", file(1, b"lost+found", b"one") + tail(SOFT, (2, 3)), {2: file(0, b"f", b"two")}, "17 Orphan", False,
@@ -193,32 +212,54 @@ def calls_that_fail(folder):
     whole = {**{tuple(name.encode().split(b"/")): held for name, held in files.items()}, (b"key",): contents(90)}
     with tempfile.TemporaryDirectory() as library:
         refusing = Refusing(pathlib.Path(library))
-        for call in "open", "write", "statx", "read":
+        all_numbered = []
+        for call, error in ("open", EIO), ("write", EIO), ("statx", EIO), ("read", EIO), *(("open", error) for error in OF_NAMES):
             for at in range(1, 60):
-                status, told, printed = folder.run("salvage -b 512 a.img made", env=refusing.env(at, call))
+                status, told, printed = folder.run("salvage -b 512 a.img made", env=refusing.env(at, call, error))
                 found = made_in(place) or {}
                 cleared(place)
                 if not refusing.was_hit():
                     break
+                what = f"{call} {at} ({error})"
                 is_told = status == 4 and told.startswith(("lfsed: 60 CannotRead\n", "lfsed: 61 CannotWrite\n"))
-                folder.check(f"{call} {at}", (is_told or status == 3) and not printed, (status, told))
+                folder.check(what, (is_told or status == 3) and not printed, (status, told))
                 numbered = [names for names in found if names not in whole]
-                folder.check(f"{call} {at}: one name has its numbers", len(numbered) <= (call in ("open", "statx") and status == 3), numbered)
+                folder.check(f"{what}: one name has its numbers", len(numbered) <= (error in OF_NAMES and status == 3), numbered)
+                all_numbered += numbered
                 found = {without_numbers(names): held for names, held in found.items()}
                 is_front = all(whole.get(names, b"-").startswith(held) for names, held in found.items())
-                folder.check(f"{call} {at}: a beginning", is_front and (status == 4 or found == whole), found)
+                folder.check(f"{what}: a beginning", is_front and (status == 4 or found == whole), found)
+    folder.check("names have their numbers", len(all_numbered) == len(OF_NAMES) * len(whole), all_numbered)
 
 
-def what_is_refused_twice(folder):
-    """A name of which the second one doesn't fit with its numbers ends the run: what comes before it is made."""
-    size, long = 2_048, 255 * b"n"
-    items = file(1, b"a", b"one") + file(2, long, b"two") + file(3, long, b"three") + file(4, b"z", b"four")
-    folder.be(image(size, 8, {0: log(1, superblock(size, 8) + items)}), 0)
+def names_that_are_too_long(folder):
+    """A name that is too long for the host, or with its numbers, gives way to the numbers alone, and the others are saved."""
+    size, long = 4_096, 255 * b"n"
+    items = file(1, b"a", b"one") + file(2, long, b"two") + file(3, long, b"three") + file(4, 256 * b"o", b"four")
+    items += directory(5, 1_000 * b"p", (2, 3)) + file(6, b"z", b"five") + tail(SOFT, (2, 3))
+    held = image(size, 8, {0: log(1, superblock(size, 8, 1_022) + items), 2: log(1, file(0, b"f", b"six"))})
+    ended = saved(folder, "long names", held, f"salvage -b {size} a.img made")
+    files = {(b"a",): b"one", (long,): b"two", (b"~0.3",): b"three", (b"~0.4",): b"four", (b"~0.5", b"f"): b"six", (b"z",): b"five"}
+    folder.check("long names", ended == (0, "lfsed: a.img: doesn't mount (13 OrderFault); nothing is lost\n", files), ended)
+
+
+def names_of_an_image_that_mounts(folder):
+    """An image that mounts is saved though a host can't have one of its names, or may not."""
+    size = 4_096
+    items = file(1, b"a", b"one") + directory(2, b"d", (2, 3)) + file(3, 300 * b"n", b"two") + tail(SOFT, (2, 3))
+    held = image(size, 8, {0: log(1, superblock(size, 8, 1_022) + items), 2: log(1, file(0, b"\0", b"three") + file(1, b"\xff", b"four"))})
+    ended = saved(folder, "names", held, f"salvage -b {size} a.img made")
+    files = {(b"a",): b"one", (b"d", b"\\x00"): b"three", (b"d", b"\\xff"): b"four", (b"~0.3",): b"two"}
+    folder.check("names", ended == (0, "", files), ended)
+    items = file(1, b"\\xff~0.4", b"two") + file(2, b"\\xff", b"one") + file(3, b"~0.4", b"three") + file(4, b"\xff", b"four")
+    items += file(5, b"\xff\xff", b"five")
+    folder.be(damaged_image(items, {}), 0)
     place = folder.image.with_name("made")
-    ended = folder.run(f"salvage -b {size} a.img made")
-    told = f"lfsed: 61 CannotWrite\nlfsed: made/{long.decode()}~0.3: File name too long (os error 36)\n"
-    folder.check("refused twice", ended == (4, told, b""), ended)
-    folder.check("refused twice: a beginning", made_in(place) == {(b"a",): b"one", (long,): b"two"}, made_in(place))
+    ended = folder.run("salvage -b 512 a.img made")
+    told = "lfsed: 63 HostName\nlfsed: a.img: /\\xff: the host refuses each name for it\n"
+    folder.check("a name is lost", ended == (4, told, b""), ended)
+    files = {(b"\\xff",): b"one", (b"\\xff~0.4",): b"two", (b"~0.4",): b"three", (b"\\xff\\xff",): b"five"}
+    folder.check("a name is lost: the others", made_in(place) == files, made_in(place))
     cleared(place)
 
 
@@ -315,7 +356,8 @@ def damaged_images(folder, many=100, seed=11):
 
 
 SCENES = [
-    each_kind_of_damage, a_dump_of_a_device, noise, many_names_of_one_file, calls_that_fail, what_is_refused_twice, what_is_there_stays,
+    each_kind_of_damage, a_dump_of_a_device, noise, many_names_of_one_file, calls_that_fail, names_that_are_too_long,
+    names_of_an_image_that_mounts, what_is_there_stays,
     one_block_is_lost, damaged_images,
 ]
 

@@ -1,5 +1,6 @@
 """What may be saved of a damaged image, by a reader apart from the program: files that the unharmed image has, or that an older state of a
 block had, with the contents that their blocks still give; and what must be, where one block is lost."""
+import itertools
 import struct
 
 from support.littlefs import DIRECTORY, IN_BLOCKS, ROOT, Log, Part, blocks_for, pointers
@@ -55,8 +56,9 @@ class Salvaged:
         return value if kind == INLINE else None
 
     def allows(self, name, held):
-        """Whether a file of this name may be made with these contents."""
-        return any(self.gives(kind, value) == held for kind, value in self.stored.get(name, ()))
+        """Whether a file of this name may be made with these contents: of any name, if it has numbers alone."""
+        stored = self.stored.get(name, ()) if name else itertools.chain(*self.stored.values())
+        return any(self.gives(kind, value) == held for kind, value in stored)
 
 
 class Unharmed:

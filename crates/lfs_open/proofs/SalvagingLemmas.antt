@@ -38,7 +38,7 @@ module _ (dir : List ℕ) (tree : Option HostTree) (old : Option (List Made)) (n
         go _ other at = at
 
     -- a folder is made of it, and an older state of a pair is found or not
-    pub whole_made : (found : Bool) (ended : Option Fault) → ended ≡ (if found then Some DamagedCommit else None) → Finds d e false found
+    pub whole_made : (found : Bool) (ended : Option Fault) → ended ≡ (if found then Some DamagedCommit else None) → Finds d e false found false
         → EndsMaking i (path_text []) dir tree old new None → EndsWhole i d e dir tree old new ended
     whole_made true ended told finds ends = subst (EndsWhole i d e dir tree old new) (sym told) (finds, ends)
     whole_made false ended told finds ends = subst (EndsWhole i d e dir tree old new) (sym told) (finds, ends)
@@ -64,7 +64,13 @@ module _ (dir : List ℕ) (tree : Option HostTree) (old : Option (List Made)) (n
     pub own_ends : (d e : Disk) (ended : Option Fault) → AreOwn i.size own i.bytes d e → EndsImage i d e dir tree old new ended
         → EndsSalvaged i.size own i.bytes dir tree old new ended
     own_ends d e (Some (Image fault)) are ends =
-        absurd (elim ends as (λ _. ⊥) [ inl none ↦ none | inr other ↦ elim other as (λ _. ⊥) [ inl lost ↦ lost.2 | inr caused ↦ caused.3 ] ])
+        absurd (elim ends as (λ _. ⊥) [
+          | inl none ↦ none
+          | inr other ↦ elim other as (λ _. ⊥) [
+            | inl named ↦ named.2
+            | inr more ↦ elim more as (λ _. ⊥) [ inl lost ↦ lost.3 | inr caused ↦ caused.3 ]
+          ]
+        ])
     own_ends d e ended are ends =
         let same = sym (image_of_disk i is) in
         (subst (λ (x : Disk). IsDisk x) same is, inr (d, e, are, subst (λ (x : Disk). EndsImage x d e dir tree old new ended) same ends))

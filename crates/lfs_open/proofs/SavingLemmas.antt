@@ -1,8 +1,9 @@
 -- How saving ends what can be read of an image that doesn't mount.
-use Rattle.std.proofs.Common.{◌≡◌, ◌⊎◌, ℕ, Bool, true, false, List, Option, Some, None, inl, inr, option_map, refl, subst, sym}
+use Rattle.std.proofs.Common.{◌≡◌, ◌⊎◌, ◌∙◌, ℕ, Bool, true, false, List, Option, Some, None, ap, inl, inr, option_map, refl, subst, sym}
 use Rattle.std.specs.Prelude.{if◌then◌else◌}
 use Rattle.lfs_block.specs.Disk.{Disk}
 use Rattle.lfs_block.specs.declared.mount_fault.MountFault.{MountFault}
+use Rattle.lfs_block.specs.declared.mount_fault.MountFault.TheVariants.{BlockTwice, Orphan}
 use Rattle.lfs_extract.specs.declared.extract_fault.ExtractFault.{ExtractFault}
 use Rattle.lfs_extract.specs.declared.extract_fault.ExtractFault.TheVariants.{Memory, HostName, CannotWrite}
 use Rattle.lfs_exchange.specs.Handing.{IsUnreadBy}
@@ -13,11 +14,14 @@ use Rattle.lfs_host.specs.Scene.{Scene}
 use Rattle.lfs_salvage.specs.Below.{HasRefusedBelow}
 use Rattle.lfs_host.specs.declared.host_kind.HostKind.TheVariants.{Missing}
 use Rattle.lfs_request.specs.declared.fault.Fault.{Fault}
-use Rattle.lfs_request.specs.declared.fault.Fault.TheVariants.{Mount, Refused, CannotRead, HostEntry}
+use Rattle.lfs_request.specs.declared.fault.Fault.TheVariants as fault
+use Rattle.lfs_request.specs.declared.fault.Fault.TheVariants.{DamagedCommit, Mount, Refused, CannotRead, HostEntry}
 use Rattle.lfs_salvage.specs.Saved.{SavesAll, StopsSaving}
+use Rattle.lfs_salvage.specs.Losses.{has_loss}
 use Rattle.lfs_salvage.specs.declared.saved.Saved.{Saved}
+use Rattle.lfs_survey.specs.Damaged.{has_older}
 use Rattle.lfs_open.specs.Extracting.{FindsFolder, fault_of_extracting}
-use Rattle.lfs_open.specs.Salvaging.{EndsSaving, IsOther, misses}
+use Rattle.lfs_open.specs.Salvaging.{EndsNamed, EndsSaving, IsOther, misses, named_end}
 
 -- ---- faults that aren't that an image doesn't mount
 
@@ -86,3 +90,42 @@ module _ (d e : Disk) (cause : MountFault) (dir : List ℕ) (tree : Option HostT
       go false missed is =
           subst (EndsSaving d e cause dir tree old new) (sym is)
           (record { missing = missing; what = s; saved = saves; missed_is = missed })
+
+-- ---- saving what can be read of an image that mounts, of which a host may not have each name
+
+abbrev end_by : Bool → Option Fault
+end_by older = if older then Some DamagedCommit else None
+
+module _ (d e : Disk) (dir : List ℕ) (tree : Option HostTree) (old : Option (List Made)) (new : Scene) where
+  -- what keeps it from being saved ends it
+  pub named_stopped : (ended : Option Fault) (why : Fault) → ended ≡ Some why
+      → ((cause : MountFault) → EndsSaving d e cause dir tree old new (Some why)) → EndsNamed d e dir tree old new ended
+  named_stopped ended why is ends = subst (EndsNamed d e dir tree old new) (sym is) (go why ends)
+    where
+      go : (f : Fault) → ((cause : MountFault) → EndsSaving d e cause dir tree old new (Some f)) → EndsNamed d e dir tree old new (Some f)
+      go (Mount found) at =
+          let one : found ≡ Orphan = (at Orphan).0 in
+          let other : found ≡ BlockTwice = (at BlockTwice).0 in
+          let same : Orphan ≡ BlockTwice = sym one ∙ other in absurd (cc)
+      go DamagedCommit at = absurd (at Orphan)
+      go fault.HostName at = absurd (at Orphan)
+      go _ at = at Orphan
+
+  -- it is saved, and something is lost, or an older state of a pair is found, or neither
+  pub named_saved : (s : Saved) (ended : Option Fault) → IsKind tree dir Missing → SavesAll d e dir old new.made s → ended ≡ named_end d s
+      → EndsNamed d e dir tree old new ended
+  named_saved s ended missing saves is = go (has_loss s) (has_older true d s.areas.items) refl refl
+    where
+      go : (lost older : Bool) → has_loss s ≡ lost → has_older true d s.areas.items ≡ older → EndsNamed d e dir tree old new ended
+      go true older loss found =
+          let ends : named_end d s ≡ Some fault.HostName =
+          ap (λ (t : Bool). if t then Some fault.HostName else end_by (has_older true d s.areas.items)) loss in
+          subst (EndsNamed d e dir tree old new) (sym (is ∙ ends)) (record { missing = missing; what = s; saved = saves; ends = ends })
+      go false true loss found =
+          let ends : named_end d s ≡ Some DamagedCommit =
+          ap (λ (t : Bool). if t then Some fault.HostName else end_by (has_older true d s.areas.items)) loss ∙ ap end_by found in
+          subst (EndsNamed d e dir tree old new) (sym (is ∙ ends)) (record { missing = missing; what = s; saved = saves; ends = ends })
+      go false false loss found =
+          let ends : named_end d s ≡ None =
+          ap (λ (t : Bool). if t then Some fault.HostName else end_by (has_older true d s.areas.items)) loss ∙ ap end_by found in
+          subst (EndsNamed d e dir tree old new) (sym (is ∙ ends)) (record { missing = missing; what = s; saved = saves; ends = ends })

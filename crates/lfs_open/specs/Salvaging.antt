@@ -1,5 +1,5 @@
 -- What is saved of an image, which needn't mount, in a new folder of the host (own).
-use Rattle.std.specs.Prelude.{◌≡◌, ◌⊎◌, ◌||◌, ℕ, nat_lt, Bool, true, false, List, [], Option, Some, None, length, take}
+use Rattle.std.specs.Prelude.{◌≡◌, ◌⊎◌, ◌||◌, ℕ, nat_lt, Bool, true, false, List, [], Option, Some, None, if◌then◌else◌, length, take}
 use Rattle.lfs_block.specs.Disk.{Disk, IsDisk, image_of}
 use Rattle.lfs_block.specs.ImageFault.{IsNoImage}
 use Rattle.lfs_block.specs.declared.mount_fault.MountFault.{MountFault}
@@ -17,11 +17,12 @@ use Rattle.lfs_host.specs.declared.host_kind.HostKind.TheVariants.{Missing}
 use Rattle.lfs_lower.specs.Through.{IsLoweredThrough}
 use Rattle.lfs_request.specs.View.{start_of}
 use Rattle.lfs_request.specs.declared.fault.Fault.{Fault}
-use Rattle.lfs_request.specs.declared.fault.Fault.TheVariants.{Image, Mount, DamagedCommit, Refused, CannotRead, CannotWrite, HostEntry}
+use Rattle.lfs_request.specs.declared.fault.Fault.TheVariants.{Image, Mount, DamagedCommit, Refused, CannotRead, CannotWrite, HostEntry, HostName}
 use Rattle.lfs_request.specs.declared.view.View.{View}
 use Rattle.lfs_salvage.specs.Below.{HasRefusedBelow}
 use Rattle.lfs_salvage.specs.Losses.{has_loss}
 use Rattle.lfs_salvage.specs.Saved.{SavesAll, StopsSaving}
+use Rattle.lfs_salvage.specs.Word.{has_other_names}
 use Rattle.lfs_salvage.specs.declared.saved.Saved.{Saved}
 use Rattle.lfs_survey.specs.Damaged.{has_older}
 use Rattle.lfs_survey.specs.Survey.{IsSurvey}
@@ -66,29 +67,57 @@ abbrev pub IsOther : Option Fault → Type 0
 IsOther (Some (Mount fault)) = ⊥
 IsOther _ = Unit {0}
 
--- a survey of its pairs finds something that no path leads to, or nothing, and an older state of one, or none
-abbrev pub Finds : Disk → Disk → Bool → Bool → Type 0
-Finds d e lost older =
-    (s : Survey) × IsSurvey e s × (nat_lt 1 (length s.areas.items) ≡ lost) × (has_older true d s.areas.items ≡ older)
+-- a survey of its pairs finds something that no path leads to, or nothing, an older state of one, or none, and a name that a host may not
+-- have as it is, or none
+abbrev pub Finds : Disk → Disk → Bool → Bool → Bool → Type 0
+Finds d e lost older other = (s : Survey) × IsSurvey e s × (nat_lt 1 (length s.areas.items) ≡ lost) × (has_older true d s.areas.items ≡ older)
+    × (has_other_names s.areas.items ≡ other)
 
--- a path leads to all that is found, and a folder is made of it, as of any; it ends well only if no older state of a pair is found
+-- a path leads to all that is found, hosts have each name, and a folder is made of it, as of any; it ends well only if no older state of a
+-- pair is found
 abbrev pub EndsWhole : Disk → Disk → Disk → List ℕ → Option HostTree → Option (List Made) → Scene → Option Fault → Type 0
-EndsWhole i d e dir tree old new None = Finds d e false false × EndsMaking i (path_text []) dir tree old new None
-EndsWhole i d e dir tree old new (Some DamagedCommit) = Finds d e false true × EndsMaking i (path_text []) dir tree old new None
+EndsWhole i d e dir tree old new None = Finds d e false false false × EndsMaking i (path_text []) dir tree old new None
+EndsWhole i d e dir tree old new (Some DamagedCommit) = Finds d e false true false × EndsMaking i (path_text []) dir tree old new None
 EndsWhole i d e dir tree old new (Some (Mount fault)) = ⊥
 EndsWhole i d e dir tree old new (Some fault) = EndsMaking i (path_text []) dir tree old new (Some fault)
 
+-- how it ends that this is saved of such an image: well, if nothing is lost and no older state of a pair is found
+abbrev pub named_end : Disk → Saved → Option Fault
+named_end d saved =
+    if has_loss saved then Some HostName else (if has_older true d saved.areas.items then Some DamagedCommit else None)
+
+-- nothing is there under the folder's name, and all that can be read is saved in it
+pub record SavesNamed (d e : Disk) (dir : List ℕ) (tree : Option HostTree) (old new : Option (List Made)) (fault : Option Fault) : Type 0 where
+  pub missing : IsKind tree dir Missing
+  pub what : Saved
+  pub saved : SavesAll d e dir old new what
+  pub ends : named_end d what ≡ fault
+
+-- what is saved of it, by the fault that it ends with
+abbrev pub EndsNamed : Disk → Disk → List ℕ → Option HostTree → Option (List Made) → Scene → Option Fault → Type 0
+EndsNamed d e dir tree old new None = SavesNamed d e dir tree old new.made None
+EndsNamed d e dir tree old new (Some DamagedCommit) = SavesNamed d e dir tree old new.made (Some DamagedCommit)
+EndsNamed d e dir tree old new (Some HostName) = SavesNamed d e dir tree old new.made (Some HostName)
+EndsNamed d e dir tree old new (Some (Mount fault)) = ⊥
+EndsNamed d e dir tree old new (Some fault) = EndsSaving d e Orphan dir tree old new (Some fault)
+
 -- ---- bytes
+
+-- a path leads to all that is found, a host may not have a name, and all that can be read is saved
+abbrev pub EndsOther : Disk → Disk → List ℕ → Option HostTree → Option (List Made) → Scene → Option Fault → Type 0
+EndsOther d e dir tree old new fault = (older : Bool) × Finds d e false older true × EndsNamed d e dir tree old new fault
 
 -- something is found that no path leads to, and all that can be read is saved
 abbrev pub EndsLost : Disk → Disk → List ℕ → Option HostTree → Option (List Made) → Scene → Option Fault → Type 0
-EndsLost d e dir tree old new fault = (older : Bool) × Finds d e true older × EndsSaving d e Orphan dir tree old new fault
+EndsLost d e dir tree old new fault =
+    (older other : Bool) × Finds d e true older other × EndsSaving d e Orphan dir tree old new fault
 
--- what is saved of the image i that is read of those: it mounts, and a folder is made of it, or something is found that no path leads to;
--- or it doesn't, for a cause
+-- what is saved of the image i that is read of those: it mounts, and a folder is made of it, or a host may not have a name, or something is
+-- found that no path leads to; or it doesn't, for a cause
 abbrev pub EndsImage : Disk → Disk → Disk → List ℕ → Option HostTree → Option (List Made) → Scene → Option Fault → Type 0
 EndsImage i d e dir tree old new fault =
     EndsWhole i d e dir tree old new fault
+    ⊎ EndsOther d e dir tree old new fault
     ⊎ EndsLost d e dir tree old new fault
     ⊎ ((cause : MountFault) × IsOfFormat cause × HasCause i cause × EndsSaving d e cause dir tree old new fault)
 

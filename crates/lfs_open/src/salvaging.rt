@@ -12,7 +12,7 @@ ghost use Rattle.lfs_report.specs.Stop.{stopped_by};
 ghost use Rattle.lfs_request.specs.declared.fault.Fault.TheVariants.{Mount};
 ghost use Rattle.lfs_salvage.specs.Saved.{SavesAll};
 ghost use Rattle.lfs_open.specs.ReadBy.{IsReadFrom};
-ghost use Rattle.lfs_open.specs.Salvaging.{AreOwn, EndsImage, EndsSalvage, EndsSalvaged, EndsSaving, Finds, misses};
+ghost use Rattle.lfs_open.specs.Salvaging.{AreOwn, EndsImage, EndsNamed, EndsSalvage, EndsSalvaged, EndsSaving, Finds, misses, named_end};
 
 use crate::extracting::{extract_mounted, fault_of_extracting, must_be_missing};
 use crate::viewing::read_by;
@@ -23,7 +23,7 @@ use lfs_host::Host;
 use lfs_lower::lower_all;
 use lfs_report::{Context, Sight, Stop, stop_of_image, stop_of_salvaging};
 use lfs_request::{Fault, Request, View};
-use lfs_salvage::{Saved, salvage_lines, save_image};
+use lfs_salvage::{Saved, has_other_names, salvage_lines, save_image};
 use lfs_survey::{Found, has_older, older_lines, older_places, survey_all};
 use std::alloc::{AllocError, Global};
 
@@ -51,9 +51,9 @@ struct Reading {
     seen: Sight,
 }
 
-/// Makes a folder of the host with all that can still be read of an image's file, which is read as a device does: if the image mounts, the
-/// folder that is made of any. It ends well only if nothing that is named is lost, and no older state of a pair is saved. What is told of
-/// it is put into `context`. Takes memory.
+/// Makes a folder of the host with all that can still be read of an image's file, which is read as a device does: if the image mounts, and
+/// hosts have all its names, the folder that is made of any. It ends well only if nothing that is named is lost, and no older state of a
+/// pair is saved. What is told of it is put into `context`. Takes memory.
 pub fn salvaged<H: Host>(
     alloc: Global,
     host: &mut H,
@@ -191,8 +191,8 @@ fn save_readable<H: Host>(
     ended(alloc, context, cause, reading, saved)
 }
 
-/// Makes a folder of an image that mounts so. If something is found that no path leads to, all that can be read is saved; else, if an older
-/// state of a pair is found, it ends with `DamagedCommit`.
+/// Makes a folder of an image that mounts so. If something is found that no path leads to, or a name that a host may not have, all that can
+/// be read is saved; else, if an older state of a pair is found, it ends with `DamagedCommit`.
 fn salvage_mounted<H: Host>(
     alloc: Global,
     host: &mut H,
@@ -206,9 +206,12 @@ fn salvage_mounted<H: Host>(
         (H.known host.old).tree (H.known host.old).made (H.known host.new) (stopped_by result) }
     ensures kept { KeepsFiles (H.known host.old) (H.known host.new) }
 {
-    let (has_lost, is_older, lines) = find(alloc, &reading.disk, &reading.parts)?;
+    let (has_lost, is_older, has_other, lines) = find(alloc, &reading.disk, &reading.parts)?;
     if has_lost {
         return save_readable(alloc, host, context, reading, MountFault::Orphan, dir);
+    }
+    if has_other {
+        return save_named(alloc, host, context, reading, dir);
     }
     extract_mounted(alloc, host, &reading.image, mounted, b"/", &mut None, dir)?;
     if is_older {
@@ -218,15 +221,67 @@ fn salvage_mounted<H: Host>(
     Ok(())
 }
 
-/// Whether something is found that no path leads to, and whether an older state of a pair is, with what is told of each.
-fn find(alloc: Global, disk: &Image, parts: &Image) -> Result<(bool, bool, Vec<String>), AllocError>
-    ensures { IfOk result (λ found. Finds disk.now.disk parts.now.disk found.0 found.1) }
+/// Makes a folder of all that can be read of an image that mounts, of which a host may not have each name. It ends with `HostName` if
+/// something is lost.
+fn save_named<H: Host>(
+    alloc: Global,
+    host: &mut H,
+    context: &mut Context,
+    reading: &Reading,
+    dir: &str,
+) -> Result<(), Stop>
+    ensures made { EndsNamed reading.now.disk.disk reading.now.parts.disk dir.now
+        (H.known host.old).tree (H.known host.old).made (H.known host.new) (stopped_by result) }
+    ensures kept { KeepsFiles (H.known host.old) (H.known host.new) }
+{
+    let saved = save_new(alloc, host, &reading.disk, &reading.parts, dir)?;
+    ended_named(alloc, context, &reading.disk, saved)
+}
+
+/// How it ends that this was saved of an image that mounts. What is told of it is put into `context`.
+fn ended_named(alloc: Global, context: &mut Context, disk: &Image, saved: Saved) -> Result<(), Stop>
+    ensures { stopped_by result ≡ named_end disk.now.disk saved }
+{
+    let end = end_of_named(disk, &saved);
+    if let Ok(lines) = salvage_lines(alloc, disk, saved) {
+        context.lines = lines;
+    }
+    end
+}
+
+/// The end itself.
+fn end_of_named(disk: &Image, saved: &Saved) -> Result<(), Stop>
+    ensures { stopped_by result ≡ named_end disk.now.disk saved.now }
+{
+    if saved.has_loss() {
+        return Err(Stop::from(Fault::HostName));
+    }
+    if has_older(true, disk, &saved.areas) {
+        return Err(Stop::from(Fault::DamagedCommit));
+    }
+    Ok(())
+}
+
+/// Whether something is found that no path leads to, whether an older state of a pair is, and whether a name is that a host may not have,
+/// with what is told of older states.
+fn find(
+    alloc: Global,
+    disk: &Image,
+    parts: &Image,
+) -> Result<(bool, bool, bool, Vec<String>), AllocError>
+    ensures { IfOk result (λ found. Finds disk.now.disk parts.now.disk found.0 found.1 found.2) }
 {
     let survey = survey_all(alloc, parts)?;
     let places = older_places(alloc, true, disk, &survey)?;
     let lines = older_lines(alloc, &survey, &places)?;
     let has_lost = survey.areas.len() > 1;
-    Ok((has_lost, has_older(true, disk, &survey.areas), lines))
+    let has_other = has_other_names(&survey.areas);
+    Ok((
+        has_lost,
+        has_older(true, disk, &survey.areas),
+        has_other,
+        lines,
+    ))
 }
 
 /// Saves all that can still be read of an image, of files in `disk` and of pairs in `parts`, unless something is there under the folder's

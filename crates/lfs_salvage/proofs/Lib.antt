@@ -3,6 +3,7 @@ pub mod FateLemmas
 pub mod WordLemmas
 pub mod NumberLemmas
 pub mod SavingLemmas
+pub mod NamingLemmas
 pub mod AreaLemmas
 pub mod ShownLemmas
 pub mod ApartLemmas

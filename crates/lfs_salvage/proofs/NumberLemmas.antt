@@ -69,13 +69,32 @@ longer_word w t is plain long =
       text = IsUtf8-append w t is.text (plain_text t plain);
     }
 
--- so is one with two numbers behind it
+-- two numbers
+numbers_plain : (block index : ℕ) → block < 2 ^ 64 → index < 2 ^ 64 → All IsPlain (numbers block index)
+numbers_plain block index few less =
+    All-append IsPlain (126 ∷ decimal block) (46 ∷ decimal index)
+    (All-cons IsPlain 126 (decimal block) (plain_by 126 refl) (decimal_plain block few))
+    (All-cons IsPlain 46 (decimal index) (plain_by 46 refl) (decimal_plain index less))
+
+numbers_long : (block index : ℕ) → block < 2 ^ 64 → index < 2 ^ 64 → 2 < length (numbers block index)
+numbers_long block index few less =
+    let first : 0 < length (decimal block) = (decimal_figures block few).1 in
+    let second : 0 < length (decimal index) = (decimal_figures index less).1 in
+    let long : length (numbers block index) ≡ length (126 ∷ decimal block) + length (46 ∷ decimal index) =
+    length-append (126 ∷ decimal block) (46 ∷ decimal index) in
+    omega (arith, long, first, second)
+
+-- a host can have them alone
+pub numbers_are_host : (block index : ℕ) → block < 2 ^ 64 → index < 2 ^ 64 → IsHostName (numbers block index)
+numbers_are_host block index few less =
+    let long : 2 < length (numbers block index) = numbers_long block index few less in
+    plain_word (numbers block index) (numbers_plain block index few less) (omega (arith, long))
+    (λ is. let one : length (numbers block index) ≡ 1 = ap length is in omega (arith, long, one))
+    (λ is. let two : length (numbers block index) ≡ 2 = ap length is in omega (arith, long, two))
+
+-- and behind a word
 pub numbered_is_host : (w : List ℕ) (block index : ℕ) → IsHostName w → block < 2 ^ 64 → index < 2 ^ 64
     → IsHostName (numbered_word w block index)
 numbered_is_host w block index is few less =
-    let first : All IsPlain (126 ∷ decimal block) = All-cons IsPlain 126 (decimal block) (plain_by 126 refl) (decimal_plain block few) in
-    let second : All IsPlain (46 ∷ decimal index) = All-cons IsPlain 46 (decimal index) (plain_by 46 refl) (decimal_plain index less) in
-    let long : length (numbers block index) ≡ length (126 ∷ decimal block) + length (46 ∷ decimal index) =
-    length-append (126 ∷ decimal block) (46 ∷ decimal index) in
-    longer_word w (numbers block index) is (All-append IsPlain (126 ∷ decimal block) (46 ∷ decimal index) first second)
-    (omega (arith, long))
+    longer_word w (numbers block index) is (numbers_plain block index few less)
+    (omega (arith, numbers_long block index few less))

@@ -1,6 +1,6 @@
 -- What is made, one after another.
 use Rattle.std.proofs.Common.{◌≡◌, ◌≢◌, ℕ, false, true, List, [], ◌∷◌, ◌++◌, Option, Result, Ok, Err, MatchResult, refl, ap, sym, subst, take, ◌∙◌, append_assoc, append-nil, inl, inr}
-use Rattle.std.specs.Prelude.{is_err, is_ok, All, IfErr}
+use Rattle.std.specs.Prelude.{is_err, is_ok, All, IfErr, OnOk}
 use Rattle.std.proofs.lemmas.List.Elements.{All-append, All-cons, All-nil}
 use Rattle.lfs_extract.specs.Extracted.{IsBegun, MakesFront, beginning}
 use Rattle.lfs_extract.specs.declared.extract_fault.ExtractFault.{ExtractFault}
@@ -11,6 +11,7 @@ use Rattle.lfs_host.specs.NewFolder.{FileMade, FolderMade, Made, Makes}
 use Rattle.lfs_host.specs.Scene.{HasRefused, KeepsRefusals, Notes, Scene}
 use Rattle.lfs_salvage.specs.Below.{IsMadeBelow, MakesBelow}
 use Rattle.lfs_salvage.specs.Saving.{MakesFirst, Saves, Stops}
+use Rattle.lfs_salvage.specs.declared.unsaved.Unsaved.{Unsaved}
 
 -- ---- in front of the rest
 
@@ -159,6 +160,11 @@ pub then_saves : {T : Type 0} (result : Result T ExtractFault) (old mid new : Op
     → Makes old mid first → Saves result mid new second → Saves result old new (first ++ second)
 then_saves (Ok done) old mid new first second made later = makes_then old mid new first second made later
 then_saves (Err fault) old mid new first second made later = then_stops fault old mid new first second made later
+
+-- nothing is told
+pub nothing_told : {T : Type 0} (result : Result T ExtractFault) (told : List Unsaved) → OnOk result (told ≡ told ++ [])
+nothing_told (Ok value) told = sym (append-nil told)
+nothing_told (Err fault) told = tt
 
 -- nothing is to be made
 pub nothing_saved : {T : Type 0} (result : Result T ExtractFault) (old : Option (List Made)) → IfErr result (λ fault. fault ≡ Memory)

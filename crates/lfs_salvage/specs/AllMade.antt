@@ -3,9 +3,9 @@ use Rattle.std.specs.Prelude.{ℕ, ◌+◌, Bool, true, List, [], ◌∷◌, ◌
 use Rattle.lfs_block.specs.Disk.{Disk}
 use Rattle.lfs_host.specs.NewFolder.{Made}
 use Rattle.lfs_salvage.specs.AreaMade.{area_made, area_unsaved, area_uses}
+use Rattle.lfs_salvage.specs.CallWords.{CallWords, first_area, later_areas}
 use Rattle.lfs_salvage.specs.Fate.{is_free}
 use Rattle.lfs_salvage.specs.Lost.{area_folder, front_behind, front_made, has_start}
-use Rattle.lfs_salvage.specs.Numbered.{Numbered, first_area, later_areas}
 use Rattle.lfs_salvage.specs.declared.block_use.BlockUse.{BlockUse}
 use Rattle.lfs_salvage.specs.declared.front.Front.{Front}
 use Rattle.lfs_salvage.specs.declared.unsaved.Unsaved.{Unsaved}
@@ -14,31 +14,33 @@ use Rattle.lfs_survey.specs.declared.area.Area.{Area}
 -- ---- an area of this number to which no path leads: nothing where no part is found at its beginning
 
 -- the folders that lack, and what is saved of it in its own
-abbrev pub lost_made : Disk → List ℕ → List ℕ → Front → ℕ → List Numbered → List BlockUse → Area → List Made
-lost_made d dir lost front number numbered uses a =
-    if has_start a.found.items then front_made dir lost front ++ area_made d (area_folder lost a) number numbered uses a else []
+abbrev pub lost_made : Disk → List ℕ → List ℕ → Front → ℕ → List CallWords → List BlockUse → Area → List Made
+lost_made d dir lost front number words uses a =
+    if has_start a.found.items then front_made dir lost front ++ area_made d (area_folder lost a) number words uses a else []
 
 abbrev pub lost_uses : Disk → ℕ → List BlockUse → Area → List BlockUse
 lost_uses d number uses a = if has_start a.found.items then area_uses d number uses a else uses
 
-abbrev pub lost_unsaved : Disk → ℕ → List BlockUse → Area → List Unsaved
-lost_unsaved d number uses a = if has_start a.found.items then area_unsaved d number uses a else []
+abbrev pub lost_unsaved : Disk → ℕ → List CallWords → List BlockUse → Area → List Unsaved
+lost_unsaved d number words uses a = if has_start a.found.items then area_unsaved d number words uses a else []
 
 -- ---- such areas, of which the first has this number, each behind the ones before it
 
-abbrev pub all_lost_made : Disk → List ℕ → List ℕ → Front → ℕ → List (List Numbered) → List BlockUse → List Area → List Made
-all_lost_made d dir lost front number numbered uses [] = []
-all_lost_made d dir lost front number numbered uses (a ∷ more) =
-    lost_made d dir lost front number (first_area numbered) uses a
-    ++ all_lost_made d dir lost (front_behind front a) (number + 1) (later_areas numbered) (lost_uses d number uses a) more
+abbrev pub all_lost_made : Disk → List ℕ → List ℕ → Front → ℕ → List (List CallWords) → List BlockUse → List Area → List Made
+all_lost_made d dir lost front number words uses [] = []
+all_lost_made d dir lost front number words uses (a ∷ more) =
+    lost_made d dir lost front number (first_area words) uses a
+    ++ all_lost_made d dir lost (front_behind front a) (number + 1) (later_areas words) (lost_uses d number uses a) more
 
 abbrev pub all_lost_uses : Disk → ℕ → List BlockUse → List Area → List BlockUse
 all_lost_uses d number uses [] = uses
 all_lost_uses d number uses (a ∷ more) = all_lost_uses d (number + 1) (lost_uses d number uses a) more
 
-abbrev pub all_lost_unsaved : Disk → ℕ → List BlockUse → List Area → List Unsaved
-all_lost_unsaved d number uses [] = []
-all_lost_unsaved d number uses (a ∷ more) = lost_unsaved d number uses a ++ all_lost_unsaved d (number + 1) (lost_uses d number uses a) more
+abbrev pub all_lost_unsaved : Disk → ℕ → List (List CallWords) → List BlockUse → List Area → List Unsaved
+all_lost_unsaved d number words uses [] = []
+all_lost_unsaved d number words uses (a ∷ more) =
+    lost_unsaved d number (first_area words) uses a
+    ++ all_lost_unsaved d (number + 1) (later_areas words) (lost_uses d number uses a) more
 
 abbrev pub front_behind_all : Front → List Area → Front
 front_behind_all front [] = front

@@ -1,9 +1,9 @@
 -- The folders of calls (own).
-use Rattle.std.specs.Prelude.{ℕ, Bool, List, [], Option, slice_get, slice_index_or, unwrap_or, option_map, option_and_then}
-use Rattle.lfs_extract.specs.PathBelow.{name_in}
+use Rattle.std.specs.Prelude.{ℕ, List, [], Option, Some, None, slice_get, slice_index_or, unwrap_or, option_map, option_and_then}
 use Rattle.lfs_meta.specs.Entry.{StoredEntry}
 use Rattle.lfs_meta.specs.Name.{Name}
-use Rattle.lfs_salvage.specs.Word.{entry_word}
+use Rattle.lfs_salvage.specs.Word.{word_in}
+use Rattle.lfs_salvage.specs.declared.wording.Wording.{Wording}
 use Rattle.lfs_survey.specs.AllPlaces.{found_entries}
 use Rattle.lfs_survey.specs.declared.call.Call.{Call}
 use Rattle.lfs_survey.specs.declared.found.Found.{Found}
@@ -31,15 +31,19 @@ block_of_found found from = unwrap_or (option_map found_block (slice_get found f
 abbrev pub way_at : List Call → ℕ → Way
 way_at calls call = unwrap_or (option_map (λ c. c.way) (slice_get calls call)) Start
 
--- the folder of a call, behind those of the calls before it: the area's own, that of the call whose directory goes on, or the one with the
--- word of the directory's name in the folder of its part, which has numbers behind it or not
-abbrev pub folder_at : List ℕ → List Found → List (List ℕ) → Bool → Way → List ℕ
-folder_at base found folders numbered Start = base
-folder_at base found folders numbered (Entry from index) =
-    name_in (slice_index_or folders from base) (entry_word numbered (block_of_found found from) index (name_at found from index))
-folder_at base found folders numbered (Next from) = slice_index_or folders from base
+-- the folder of a directory in another one: that with its word, or if it has none the other one
+abbrev pub folder_in : List ℕ → List Found → ℕ → ℕ → Option Wording → List ℕ
+folder_in above found from index None = above
+folder_in above found from index (Some word) = word_in above (block_of_found found from) index (name_at found from index) word
+
+-- the folder of a call, behind those of the calls before it: the area's own, that of the call whose directory goes on, or that of a directory
+-- in the folder of its part
+abbrev pub folder_at : List ℕ → List Found → List (List ℕ) → Option Wording → Way → List ℕ
+folder_at base found folders word Start = base
+folder_at base found folders word (Entry from index) = folder_in (slice_index_or folders from base) found from index word
+folder_at base found folders word (Next from) = slice_index_or folders from base
 
 -- that of a pair that isn't read is the area's own
-abbrev pub call_folder : List ℕ → List Found → List (List ℕ) → Bool → Way → Found → List ℕ
-call_folder base found folders numbered way (Part p) = folder_at base found folders numbered way
-call_folder base found folders numbered way (Refused fault) = base
+abbrev pub call_folder : List ℕ → List Found → List (List ℕ) → Option Wording → Way → Found → List ℕ
+call_folder base found folders word way (Part p) = folder_at base found folders word way
+call_folder base found folders word way (Refused fault) = base

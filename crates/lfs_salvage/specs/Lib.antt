@@ -3,7 +3,7 @@ pub mod FateHeld
 pub mod Unsaved
 pub mod Word
 pub mod Naming
-pub mod Numbered
+pub mod CallWords
 pub mod Folder
 pub mod AreaMade
 pub mod PartsUsed

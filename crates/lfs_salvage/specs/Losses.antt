@@ -56,12 +56,13 @@ losses_from areas uses calls call [] = false
 losses_from areas uses calls call (f ∷ fs) =
     is_lost areas uses (call_pair calls call) f || losses_from areas uses calls (call + 1) fs
 
--- a file isn't saved, under no name
+-- an entry isn't saved, under no name
 abbrev pub is_file_lost : Why → Bool
 is_file_lost (why.Fault fault) = true
 is_file_lost (why.Elsewhere parent) = false
+is_file_lost why.Name = true
 
--- something is lost: no part is found anywhere, or a pair is lost, or a file
+-- something is lost: no part is found anywhere, or a pair is lost, or an entry
 abbrev pub has_loss : Saved → Bool
 has_loss s =
     not (list_any (λ a. has_start a.found.items) s.areas.items)

@@ -2,6 +2,7 @@
 #![tactic(auto)]
 
 mod block_use;
+mod call_folder;
 mod entry_name;
 mod file_body;
 mod file_losses;
@@ -11,6 +12,7 @@ mod laws;
 mod losses;
 mod lost;
 mod naming;
+mod other_names;
 mod pair_losses;
 mod parent;
 mod reading;
@@ -21,7 +23,9 @@ mod saving;
 mod saving_entries;
 mod saving_image;
 mod saving_lost;
+mod thing;
 mod unsaved;
+mod wording;
 mod words;
 
 pub use block_use::BlockUse;
@@ -31,6 +35,7 @@ pub use laws::{
 };
 pub use losses::is_lost;
 pub use lost::lost_word;
+pub use other_names::has_other_names;
 pub use parent::Parent;
 pub use salvage::Salvage;
 pub use saved::Saved;

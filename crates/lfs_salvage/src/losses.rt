@@ -90,13 +90,14 @@ fn has_lost_pair(areas: &[Area], uses: &[BlockUse], calls: &[Call], found: &[Fou
     false
 }
 
-/// Whether a file isn't saved under any name.
-fn is_file_lost(why: Why) -> bool
+/// Whether an entry isn't saved under any name.
+pub(crate) fn is_file_lost(why: Why) -> bool
     ensures { result ≡ is_file_lost why }
 {
     match why {
         Why::Fault(_) => true,
         Why::Elsewhere(_) => false,
+        Why::Name => true,
     }
 }
 
@@ -114,7 +115,7 @@ fn has_lost_pairs(areas: &[Area], uses: &[BlockUse]) -> bool
     areas.iter().any(|area| has_lost_pair(areas, uses, &area.calls, &area.found))
 }
 
-/// Whether one of the files that aren't saved is lost.
+/// Whether one of the entries that aren't saved is lost.
 fn has_lost_files(unsaved: &[Unsaved]) -> bool
     ensures { result ≡ list_any (λ u. is_file_lost u.why) unsaved.now }
 {
@@ -125,7 +126,7 @@ impl Saved {
     ghost use Rattle.std.specs.Prelude.{◌≡◌};
     ghost use Rattle.lfs_salvage.specs.Losses.{has_loss};
 
-    /// Whether something is lost: no part is found anywhere, or a pair or a file that is named isn't saved.
+    /// Whether something is lost: no part is found anywhere, or a pair, a file or a directory that is named isn't saved.
     pub fn has_loss(&self) -> bool
         ensures { result ≡ has_loss self.now }
     {

@@ -12,7 +12,7 @@ use std::alloc::{AllocError, Global};
 pub struct Salvage {
     /// What each block is used for.
     pub uses: Vec<BlockUse>,
-    /// The entries whose files aren't saved, in the order in which they are come to.
+    /// The entries that aren't saved, in the order in which they are come to.
     pub unsaved: Vec<Unsaved>,
 }
 
@@ -21,7 +21,7 @@ impl Salvage {
     ghost use Rattle.lfs_salvage.specs.Fate.{uses_by_chain, settled, uses_behind};
     ghost use Rattle.lfs_salvage.specs.FateHeld.{fate_held};
     ghost use Rattle.lfs_salvage.specs.PartsUsed.{areas_uses, uses_by_part, parts_uses, uses_at_first};
-    ghost use Rattle.lfs_salvage.specs.Unsaved.{unsaved};
+    ghost use Rattle.lfs_salvage.specs.Unsaved.{nameless, unsaved};
 
     /// Nothing is saved yet of an image of so many blocks, of which these areas are found: the blocks of their parts are in use, and no
     /// others. Takes memory.
@@ -131,6 +131,24 @@ impl Salvage {
             FileBody::Passed => return Ok(()),
         };
         self.unsaved.push(Unsaved { parent, why })?;
+        Ok(())
+    }
+
+    /// Keeps an entry that stands here, if the host can't have a name for it.
+    pub(crate) fn keep_nameless(
+        &mut self,
+        parent: Parent,
+        is_nameless: bool,
+    ) -> Result<(), AllocError>
+        ensures unsaved { OnOk result (self.new.unsaved.items ≡ self.old.unsaved.items ++ nameless parent is_nameless) }
+        ensures uses { self.new.uses ≡ self.old.uses }
+    {
+        if is_nameless {
+            self.unsaved.push(Unsaved {
+                parent,
+                why: Why::Name,
+            })?;
+        }
         Ok(())
     }
 }

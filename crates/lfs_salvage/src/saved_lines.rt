@@ -1,6 +1,6 @@
 //! What is told of what is saved of an image.
 
-use crate::file_losses::{add_lost_files, add_other_files};
+use crate::file_losses::{add_lost_entries, add_other_files};
 use crate::lost::lost_word;
 use crate::pair_losses::{add_lost_area, add_lost_pairs, add_other_pairs};
 use crate::salvage::Salvage;
@@ -9,7 +9,7 @@ use lfs_block::{Blocks, Image};
 use lfs_survey::{Lines, Owners, Survey, older_lines, older_places};
 use std::alloc::{AllocError, Global};
 
-/// What is told of what is saved of an image, whose file's own bytes these are: a line for each pair and each file that is lost, one for
+/// What is told of what is saved of an image, whose file's own bytes these are: a line for each pair and each entry that is lost, one for
 /// each pair of which an older state is saved, then one for each that is saved under another path, and for each area to which no path leads,
 /// where it is saved. Of each kind at most a hundred, and how many more there are. Takes memory.
 pub fn salvage_lines(
@@ -52,7 +52,7 @@ fn losses(
             &mut lines,
         )?;
     }
-    add_lost_files(alloc, image, survey, salvage, &mut lines)?;
+    add_lost_entries(alloc, image, survey, salvage, &mut lines)?;
     lines.ended(alloc, "are lost")
 }
 

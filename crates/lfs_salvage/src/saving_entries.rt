@@ -1,28 +1,28 @@
 //! Saving the entries of a part that is found.
 
-ghost use Rattle.std.specs.Prelude.{◌≡◌, ◌++◌, Bool, ℕ, List, IfErr, IfSome, OnOk, Some, option_map};
+ghost use Rattle.std.specs.Prelude.{◌≡◌, ℕ, List, IfErr, IfOk, IfSome, Option, OnOk, Some, option_map};
 ghost use Rattle.lfs_block.specs.Disk.{Disk};
 ghost use Rattle.lfs_extract.specs.Making.{held_bytes};
 ghost use Rattle.lfs_extract.specs.declared.extract_fault.ExtractFault.TheVariants.{CannotWrite};
-ghost use Rattle.lfs_extract.specs.PathBelow.{name_in};
 ghost use Rattle.lfs_fs.specs.RowHeld.{row_body_held};
 ghost use Rattle.lfs_fs.specs.RowShown.{HasBlocks};
 ghost use Rattle.lfs_host.specs.Scene.{KeepsFiles};
 ghost use Rattle.lfs_meta.specs.BodyHeld.{body_held};
-ghost use Rattle.lfs_salvage.specs.AreaMade.{entries_made, entries_unsaved, entries_uses, entry_made, uses_by_entry, file_made, call_parent};
+ghost use Rattle.lfs_salvage.specs.AreaMade.{entries_made, entries_unsaved, entries_uses, entry_made, entry_unsaved, file_made, is_nameless, uses_by_entry};
 ghost use Rattle.lfs_salvage.specs.Below.{HasRefusedBelow, IsNameBelow, MakesBelow};
-ghost use Rattle.lfs_salvage.specs.Fate.{HasFileBlocks, fate, saved_bytes};
+ghost use Rattle.lfs_salvage.specs.Fate.{HasFileBlocks, saved_bytes};
 ghost use Rattle.lfs_salvage.specs.FateHeld.{fate_held};
-ghost use Rattle.lfs_salvage.specs.Saving.{Saves};
-ghost use Rattle.lfs_salvage.specs.Unsaved.{unsaved};
-ghost use Rattle.lfs_salvage.specs.Word.{entry_word};
+ghost use Rattle.lfs_salvage.specs.Saving.{Saves, SavesBut};
+ghost use Rattle.lfs_salvage.specs.Word.{word_in};
+ghost use Rattle.lfs_salvage.specs.declared.wording.Wording.{Wording};
 
 use crate::entry_name::EntryName;
 use crate::file_body::FileBody;
-use crate::naming::begin_file;
+use crate::naming::make_first;
 use crate::parent::Parent;
 use crate::reading::file_of;
 use crate::salvage::Salvage;
+use crate::thing::Thing;
 use lfs_block::Blocks;
 use lfs_extract::{ExtractFault, write_file};
 use lfs_fs::RowBody;
@@ -51,7 +51,7 @@ fn saved_body<'a>(stored: &'a Body, body: &'a FileBody) -> Option<RowBody<'a>>
     }
 }
 
-/// Makes a file with a body's contents, under the host's word for the name of an entry in a folder.
+/// Makes a file with a body's contents, under a word for the name of an entry in a folder, and says whether the host can have none.
 fn make_named<B: Blocks, F: NewFolder>(
     alloc: Global,
     disk: &B,
@@ -59,21 +59,25 @@ fn make_named<B: Blocks, F: NewFolder>(
     named: EntryName<'_>,
     above: &str,
     folder: &mut F,
-) -> Result<(), ExtractFault>
+) -> Result<bool, ExtractFault>
     requires blocks { HasBlocks (B.disk disk.now) (row_body_held body.now) }
-    ensures made { (numbered : Bool) × Saves result (F.known folder.old).made (F.known folder.new).made
-        (file_made (name_in above.now (entry_word numbered named.entry.block named.entry.index named.entry.name.now))
-        (Some (held_bytes (B.disk disk.now) (row_body_held body.now)))) }
+    ensures made { (word : Option Wording)
+        × Saves result (F.known folder.old).made (F.known folder.new).made
+        (file_made (option_map (word_in above.now named.entry.block named.entry.index named.entry.name.now) word)
+        (Some (held_bytes (B.disk disk.now) (row_body_held body.now))))
+        × IfOk result (λ nameless. nameless ≡ is_nameless word (Some (held_bytes (B.disk disk.now) (row_body_held body.now)))) }
     ensures below { (top : List ℕ) → IsNameBelow top above.now → MakesBelow top (F.known folder.old).made (F.known folder.new).made }
     ensures blamed { (top : List ℕ) → IsNameBelow top above.now → IfErr result (λ fault. fault ≡ CannotWrite → HasRefusedBelow (F.known folder.new) top) }
     ensures kept { KeepsFiles (F.known folder.old) (F.known folder.new) }
 {
-    let name = begin_file(alloc, above, named, folder)?;
+    let Some(name) = make_first(alloc, Thing::File, above, named, folder)? else {
+        return Ok(true);
+    };
     write_file(disk, body, name.as_str(), folder)?;
-    Ok(())
+    Ok(false)
 }
 
-/// Makes the file of an entry of the part that begins at this block, where it is saved.
+/// Makes the file of an entry of the part that begins at this block, where it is saved, and says whether the host can have no name for it.
 fn make_entry<B: Blocks, F: NewFolder>(
     alloc: Global,
     disk: &B,
@@ -83,17 +87,19 @@ fn make_entry<B: Blocks, F: NewFolder>(
     index: usize,
     above: &str,
     folder: &mut F,
-) -> Result<(), ExtractFault>
+) -> Result<bool, ExtractFault>
     requires { HasFileBlocks (B.disk disk.now) (fate_held body.now) }
-    ensures made { (numbered : Bool) × Saves result (F.known folder.old).made (F.known folder.new).made
-        (file_made (name_in above.now (entry_word numbered block index entry.now.name))
-        (saved_bytes (B.disk disk.now) entry.now.body (fate_held body.now))) }
+    ensures made { (word : Option Wording)
+        × Saves result (F.known folder.old).made (F.known folder.new).made
+        (file_made (option_map (word_in above.now block index entry.now.name) word)
+        (saved_bytes (B.disk disk.now) entry.now.body (fate_held body.now)))
+        × IfOk result (λ nameless. nameless ≡ is_nameless word (saved_bytes (B.disk disk.now) entry.now.body (fate_held body.now))) }
     ensures below { (top : List ℕ) → IsNameBelow top above.now → MakesBelow top (F.known folder.old).made (F.known folder.new).made }
     ensures blamed { (top : List ℕ) → IsNameBelow top above.now → IfErr result (λ fault. fault ≡ CannotWrite → HasRefusedBelow (F.known folder.new) top) }
     ensures kept { KeepsFiles (F.known folder.old) (F.known folder.new) }
 {
     let Some(row) = saved_body(&entry.body, body) else {
-        return Ok(());
+        return Ok(false);
     };
     let name = EntryName {
         name: &entry.name,
@@ -114,18 +120,17 @@ fn save_entry<B: Blocks, F: NewFolder>(
     salvage: &mut Salvage,
     folder: &mut F,
 ) -> Result<(), ExtractFault>
-    ensures made { (numbered : Bool) × Saves result (F.known folder.old).made (F.known folder.new).made
-        (entry_made (B.disk disk.now) above.now numbered block parent.entry salvage.old.uses.items entry.now) }
+    ensures made { (word : Option Wording) × SavesBut result (F.known folder.old).made (F.known folder.new).made
+        (entry_made (B.disk disk.now) above.now block parent.entry word salvage.old.uses.items entry.now) salvage.old.unsaved.items
+        salvage.new.unsaved.items (entry_unsaved (B.disk disk.now) parent word salvage.old.uses.items entry.now) }
     ensures uses { OnOk result (salvage.new.uses.items ≡ uses_by_entry (B.disk disk.now) salvage.old.uses.items parent entry.now) }
-    ensures unsaved { OnOk result (salvage.new.unsaved.items
-        ≡ salvage.old.unsaved.items ++ unsaved parent (fate (B.disk disk.now) salvage.old.uses.items entry.now)) }
     ensures below { (top : List ℕ) → IsNameBelow top above.now → MakesBelow top (F.known folder.old).made (F.known folder.new).made }
     ensures blamed { (top : List ℕ) → IsNameBelow top above.now → IfErr result (λ fault. fault ≡ CannotWrite → HasRefusedBelow (F.known folder.new) top) }
     ensures kept { KeepsFiles (F.known folder.old) (F.known folder.new) }
 {
     let body = file_of(alloc, disk, &salvage.uses, entry)?;
     salvage.keep_unsaved(parent, &body)?;
-    make_entry(
+    let is_nameless = make_entry(
         alloc,
         disk,
         entry,
@@ -135,6 +140,7 @@ fn save_entry<B: Blocks, F: NewFolder>(
         above,
         folder,
     )?;
+    salvage.keep_nameless(parent, is_nameless)?;
     salvage.settle(parent, &body);
     Ok(())
 }
@@ -151,11 +157,10 @@ pub(crate) fn save_entries<B: Blocks, F: NewFolder>(
     salvage: &mut Salvage,
     folder: &mut F,
 ) -> Result<(), ExtractFault>
-    ensures made { (numbered : List Bool) × Saves result (F.known folder.old).made (F.known folder.new).made
-        (entries_made (B.disk disk.now) above.now numbered block salvage.old.uses.items area call 0 entries.now) }
+    ensures made { (words : List (Option Wording)) × SavesBut result (F.known folder.old).made (F.known folder.new).made
+        (entries_made (B.disk disk.now) above.now words block salvage.old.uses.items area call 0 entries.now) salvage.old.unsaved.items
+        salvage.new.unsaved.items (entries_unsaved (B.disk disk.now) words salvage.old.uses.items area call 0 entries.now) }
     ensures uses { OnOk result (salvage.new.uses.items ≡ entries_uses (B.disk disk.now) salvage.old.uses.items area call 0 entries.now) }
-    ensures unsaved { OnOk result (salvage.new.unsaved.items
-        ≡ salvage.old.unsaved.items ++ entries_unsaved (B.disk disk.now) salvage.old.uses.items area call 0 entries.now) }
     ensures below { (top : List ℕ) → IsNameBelow top above.now → MakesBelow top (F.known folder.old).made (F.known folder.new).made }
     ensures blamed { (top : List ℕ) → IsNameBelow top above.now → IfErr result (λ fault. fault ≡ CannotWrite → HasRefusedBelow (F.known folder.new) top) }
     ensures kept { KeepsFiles (F.known folder.old) (F.known folder.new) }

@@ -1,6 +1,6 @@
 //! Saving all that can still be read of an image.
 
-ghost use Rattle.std.specs.Prelude.{◌≡◌, ◌++◌, List, IfErr, IfOk, OnOk, if◌then◌else◌, length, slice_set, true};
+ghost use Rattle.std.specs.Prelude.{◌≡◌, List, IfErr, IfOk, OnOk, if◌then◌else◌, length, slice_set, true};
 ghost use Rattle.lfs_extract.specs.declared.extract_fault.ExtractFault.TheVariants.{CannotWrite};
 ghost use Rattle.lfs_host.specs.Scene.{KeepsFiles};
 ghost use Rattle.lfs_salvage.specs.AllMade.{marked_used};
@@ -8,8 +8,8 @@ ghost use Rattle.lfs_salvage.specs.Below.{HasRefusedBelow, IsNameBelow, MakesBel
 ghost use Rattle.lfs_salvage.specs.Fate.{is_free};
 ghost use Rattle.lfs_salvage.specs.Lost.{front_behind_root};
 ghost use Rattle.lfs_salvage.specs.Saved.{AreLeft, SavesAll, StopsSaving, survey_front, survey_made, survey_unsaved, survey_uses};
-ghost use Rattle.lfs_salvage.specs.Numbered.{Numbered};
-ghost use Rattle.lfs_salvage.specs.Saving.{Saves};
+ghost use Rattle.lfs_salvage.specs.CallWords.{CallWords};
+ghost use Rattle.lfs_salvage.specs.Saving.{SavesBut};
 
 use crate::block_use::BlockUse;
 use crate::front::Front;
@@ -48,11 +48,10 @@ fn save_survey<B: Blocks, F: NewFolder>(
     folder: &mut F,
 ) -> Result<(), ExtractFault>
     requires { IsNameBelow dir.now lost.now }
-    ensures made { (numbered : List (List Numbered)) × Saves result (F.known folder.old).made (F.known folder.new).made
-        (survey_made (B.disk disk.now) dir.now lost.now numbered salvage.old.uses.items areas.now) }
+    ensures made { (words : List (List CallWords)) × SavesBut result (F.known folder.old).made (F.known folder.new).made
+        (survey_made (B.disk disk.now) dir.now lost.now words salvage.old.uses.items areas.now) salvage.old.unsaved.items
+        salvage.new.unsaved.items (survey_unsaved (B.disk disk.now) words salvage.old.uses.items areas.now) }
     ensures uses { OnOk result (salvage.new.uses.items ≡ survey_uses (B.disk disk.now) salvage.old.uses.items areas.now) }
-    ensures unsaved { OnOk result (salvage.new.unsaved.items
-        ≡ salvage.old.unsaved.items ++ survey_unsaved (B.disk disk.now) salvage.old.uses.items areas.now) }
     ensures front { OnOk result (front.new ≡ survey_front areas.now) }
     ensures below { MakesBelow dir.now (F.known folder.old).made (F.known folder.new).made }
     ensures blamed { IfErr result (λ fault. fault ≡ CannotWrite → HasRefusedBelow (F.known folder.new) dir.now) }
@@ -113,8 +112,8 @@ fn find_left<C: Blocks>(
 /// there. Each block is saved once, so that no more is made than the image has. Pairs are read in `parts`, and the blocks of files in
 /// `disk`. Nothing is made where no part is found.
 ///
-/// `CannotWrite` where the host refuses to make a folder or a file, or to write to one: then all before it is made, and a file that was
-/// begun may be left with a beginning of its contents. `Memory` says only that a growth was refused, and some of what is first is made.
+/// `CannotWrite` where the host refuses to make a folder or a file, but for the name of an entry, or to write to one: then all before it is
+/// made, and a file that was begun may be left with a beginning of its contents. `Memory` says only that a growth was refused, and some of what is first is made.
 pub fn save_image<B: Blocks, C: Blocks, F: NewFolder>(
     alloc: Global,
     disk: &B,

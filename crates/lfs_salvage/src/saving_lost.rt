@@ -1,13 +1,13 @@
 //! Saving what no path leads to.
 
-ghost use Rattle.std.specs.Prelude.{◌≡◌, ◌+◌, ◌<◌, ◌^◌, ◌++◌, List, IfErr, OnOk, length};
+ghost use Rattle.std.specs.Prelude.{◌≡◌, ◌+◌, ◌<◌, ◌^◌, List, IfErr, OnOk, length};
 ghost use Rattle.lfs_extract.specs.declared.extract_fault.ExtractFault.TheVariants.{CannotWrite};
 ghost use Rattle.lfs_host.specs.Scene.{KeepsFiles};
 ghost use Rattle.lfs_salvage.specs.AllMade.{all_lost_made, all_lost_unsaved, all_lost_uses, front_behind_all, lost_made, lost_unsaved, lost_uses};
 ghost use Rattle.lfs_salvage.specs.Below.{HasRefusedBelow, IsNameBelow, MakesBelow};
 ghost use Rattle.lfs_salvage.specs.Lost.{front_behind, front_made};
-ghost use Rattle.lfs_salvage.specs.Numbered.{Numbered};
-ghost use Rattle.lfs_salvage.specs.Saving.{Saves};
+ghost use Rattle.lfs_salvage.specs.CallWords.{CallWords};
+ghost use Rattle.lfs_salvage.specs.Saving.{Saves, SavesBut};
 
 use crate::front::Front;
 use crate::lost::{area_folder, has_start};
@@ -56,11 +56,10 @@ fn save_lost<B: Blocks, F: NewFolder>(
     folder: &mut F,
 ) -> Result<(), ExtractFault>
     requires { IsNameBelow dir.now lost.now }
-    ensures made { (numbered : List Numbered) × Saves result (F.known folder.old).made (F.known folder.new).made
-        (lost_made (B.disk disk.now) dir.now lost.now front.old number numbered salvage.old.uses.items area.now) }
+    ensures made { (words : List CallWords) × SavesBut result (F.known folder.old).made (F.known folder.new).made
+        (lost_made (B.disk disk.now) dir.now lost.now front.old number words salvage.old.uses.items area.now) salvage.old.unsaved.items
+        salvage.new.unsaved.items (lost_unsaved (B.disk disk.now) number words salvage.old.uses.items area.now) }
     ensures uses { OnOk result (salvage.new.uses.items ≡ lost_uses (B.disk disk.now) number salvage.old.uses.items area.now) }
-    ensures unsaved { OnOk result (salvage.new.unsaved.items
-        ≡ salvage.old.unsaved.items ++ lost_unsaved (B.disk disk.now) number salvage.old.uses.items area.now) }
     ensures front { OnOk result (front.new ≡ front_behind front.old area.now) }
     ensures below { MakesBelow dir.now (F.known folder.old).made (F.known folder.new).made }
     ensures blamed { IfErr result (λ fault. fault ≡ CannotWrite → HasRefusedBelow (F.known folder.new) dir.now) }
@@ -89,11 +88,10 @@ pub(crate) fn save_all_lost<B: Blocks, F: NewFolder>(
 ) -> Result<(), ExtractFault>
     requires lost { IsNameBelow dir.now lost.now }
     requires few { first + length areas.now < 2 ^ 64 }
-    ensures made { (numbered : List (List Numbered)) × Saves result (F.known folder.old).made (F.known folder.new).made
-        (all_lost_made (B.disk disk.now) dir.now lost.now front.old first numbered salvage.old.uses.items areas.now) }
+    ensures made { (words : List (List CallWords)) × SavesBut result (F.known folder.old).made (F.known folder.new).made
+        (all_lost_made (B.disk disk.now) dir.now lost.now front.old first words salvage.old.uses.items areas.now) salvage.old.unsaved.items
+        salvage.new.unsaved.items (all_lost_unsaved (B.disk disk.now) first words salvage.old.uses.items areas.now) }
     ensures uses { OnOk result (salvage.new.uses.items ≡ all_lost_uses (B.disk disk.now) first salvage.old.uses.items areas.now) }
-    ensures unsaved { OnOk result (salvage.new.unsaved.items
-        ≡ salvage.old.unsaved.items ++ all_lost_unsaved (B.disk disk.now) first salvage.old.uses.items areas.now) }
     ensures front { OnOk result (front.new ≡ front_behind_all front.old areas.now) }
     ensures below { MakesBelow dir.now (F.known folder.old).made (F.known folder.new).made }
     ensures blamed { IfErr result (λ fault. fault ≡ CannotWrite → HasRefusedBelow (F.known folder.new) dir.now) }

@@ -1,22 +1,24 @@
-//! A file that isn't saved.
+//! An entry that isn't saved.
 
 use crate::parent::Parent;
 use lfs_block::MountFault;
 
-/// Why an entry's file isn't saved.
+/// Why an entry isn't saved.
 #[derive(Clone, Copy, Debug, PartialEq, Eq)]
 pub enum Why {
-    /// It can't be read, for this.
+    /// Its file can't be read, for this.
     Fault(MountFault),
-    /// It is saved already, under another name.
+    /// Its file is saved already, under another name.
     Elsewhere(Parent),
+    /// The host can't have a name for it.
+    Name,
 }
 
-/// An entry whose file isn't saved.
+/// An entry that isn't saved.
 #[derive(Clone, Copy, Debug, PartialEq, Eq)]
 pub struct Unsaved {
     /// Where the entry stands.
     pub parent: Parent,
-    /// Why its file isn't saved.
+    /// Why it isn't saved.
     pub why: Why,
 }

@@ -6,9 +6,10 @@ ghost use Rattle.lfs_extract.specs.PathBelow.{name_in};
 ghost use Rattle.lfs_listing.specs.Listing.{shown_byte};
 ghost use Rattle.lfs_meta.specs.Name.{is_name};
 ghost use Rattle.lfs_salvage.specs.Below.{IsNameBelow};
-ghost use Rattle.lfs_salvage.specs.Word.{is_own_word, numbered_word, other_word, host_word};
+ghost use Rattle.lfs_salvage.specs.Word.{is_own_word, numbered_word, numbers, other_word, host_word, word_in};
 
 use crate::entry_name::EntryName;
+use crate::wording::Wording;
 use lfs_listing::append_all_shown;
 use lfs_meta::is_name;
 use std::alloc::{AllocError, Global};
@@ -21,7 +22,7 @@ fn is_host_name(name: &[u8]) -> bool
 }
 
 /// The text of a name that a host can have.
-fn own_word(name: &[u8]) -> Option<&str>
+pub(crate) fn own_word(name: &[u8]) -> Option<&str>
     ensures { MatchOption result (is_own_word name.now ≡ false) (λ text. (is_own_word name.now ≡ true) × (text.now ≡ name.now)) }
 {
     if !is_host_name(name) {
@@ -69,7 +70,7 @@ fn word(alloc: Global, name: &[u8]) -> Result<String, AllocError>
 }
 
 /// The host's name of what has its word for a name in a folder.
-pub(crate) fn name_below(alloc: Global, folder: &str, name: &[u8]) -> Result<String, AllocError>
+fn name_below(alloc: Global, folder: &str, name: &[u8]) -> Result<String, AllocError>
     ensures value { IfOk result (λ below. string_bytes below ≡ name_in folder.now (host_word name.now)) }
     ensures below { (top : List ℕ) → IsNameBelow top folder.now → IsNameBelow top (name_in folder.now (host_word name.now)) }
 {
@@ -78,11 +79,7 @@ pub(crate) fn name_below(alloc: Global, folder: &str, name: &[u8]) -> Result<Str
 }
 
 /// The host's name of what has its word for the name of an entry, with the entry's numbers behind it, in a folder.
-pub(crate) fn numbered_below(
-    alloc: Global,
-    folder: &str,
-    named: EntryName<'_>,
-) -> Result<String, AllocError>
+fn numbered_below(alloc: Global, folder: &str, named: EntryName<'_>) -> Result<String, AllocError>
     ensures value { IfOk result (λ below. string_bytes below ≡ name_in folder.now (numbered_word (host_word named.entry.name.now) named.entry.block named.entry.index)) }
     ensures below { (top : List ℕ) → IsNameBelow top folder.now
         → IsNameBelow top (name_in folder.now (numbered_word (host_word named.entry.name.now) named.entry.block named.entry.index)) }
@@ -90,4 +87,32 @@ pub(crate) fn numbered_below(
     let word = word(alloc, named.name)?;
     let EntryName { block, index, .. } = named;
     format!(in alloc; "{folder}/{word}~{block}.{index}")
+}
+
+/// The host's name of what has the numbers of an entry in a folder.
+fn numbers_below(alloc: Global, folder: &str, named: EntryName<'_>) -> Result<String, AllocError>
+    ensures value { IfOk result (λ below. string_bytes below ≡ name_in folder.now (numbers named.entry.block named.entry.index)) }
+    ensures below { (top : List ℕ) → IsNameBelow top folder.now → IsNameBelow top (name_in folder.now (numbers named.entry.block named.entry.index)) }
+{
+    let EntryName { block, index, .. } = named;
+    format!(in alloc; "{folder}/~{block}.{index}")
+}
+
+/// The host's name of what has a word for the name of an entry in a folder.
+pub(crate) fn word_below(
+    alloc: Global,
+    folder: &str,
+    named: EntryName<'_>,
+    word: Wording,
+) -> Result<String, AllocError>
+    ensures value { IfOk result (λ below. string_bytes below
+        ≡ word_in folder.now named.entry.block named.entry.index named.entry.name.now word) }
+    ensures below { (top : List ℕ) → IsNameBelow top folder.now
+        → IsNameBelow top (word_in folder.now named.entry.block named.entry.index named.entry.name.now word) }
+{
+    match word {
+        Wording::Own => name_below(alloc, folder, named.name),
+        Wording::Numbered => numbered_below(alloc, folder, named),
+        Wording::Alone => numbers_below(alloc, folder, named),
+    }
 }

@@ -17,4 +17,4 @@ returns-in-Err-Memory-clause-made g c =
 pub returns-in-Err-clause-made : goal.returns-in-Err-clause-made
 returns-in-Err-clause-made g c =
     let format : IsOfFormat c.in-Err.cause = search rules in
-    inr (inr (c.in-Err.cause, format, c.in-Err.ensures.refused, c.save_readable.ensures.made))
+    inr (inr (inr (c.in-Err.cause, format, c.in-Err.ensures.refused, c.save_readable.ensures.made)))

@@ -15,9 +15,11 @@ use Rattle.lfs_open.proofs.SalvagingLemmas.{whole_made, whole_stopped, whole_wit
 use Rattle.lfs_open.proofs.StopLemmas.{stopped_at}
 use Rattle.lfs_open.proofs.salvaging.salvage_mounted.Goals as goal
 
-found_so : (d e : Disk) (lost older is_older : Bool) → lost ≡ false → older ≡ is_older → Finds d e lost older → Finds d e false is_older
-found_so d e lost older is_older no_lost is finds =
-    subst (λ (b : Bool). Finds d e b is_older) no_lost (subst (λ (b : Bool). Finds d e lost b) is finds)
+found_so : (d e : Disk) (lost older is_older other : Bool) → lost ≡ false → older ≡ is_older → other ≡ false → Finds d e lost older other
+    → Finds d e false is_older false
+found_so d e lost older is_older other no_lost is no_other finds =
+    subst (λ (b : Bool). Finds d e false is_older b) no_other
+    (subst (λ (b : Bool). Finds d e b is_older other) no_lost (subst (λ (b : Bool). Finds d e lost b other) is finds))
 
 pub returns-in_err-has_lost-clause-made : goal.returns-in_err-has_lost-clause-made
 returns-in_err-has_lost-clause-made g c =
@@ -46,10 +48,24 @@ returns-then-has_lost-clause-made g c =
     let d : Disk = c.args.reading.now.disk.disk in
     let e : Disk = c.args.reading.now.parts.disk in
     let older : Bool = c.in_ok-has_lost.is_older in
+    let other : Bool = c.in_ok-has_lost.has_other in
+    inr (inr (inl (
+      older,
+      other,
+      subst (λ (b : Bool). Finds d e b older other) c.if-has_lost.true c.in_ok-has_lost.ensures,
+      c.save_readable.ensures.made,
+    )))
+
+pub returns-then-has_other-clause-made : goal.returns-then-has_other-clause-made
+returns-then-has_other-clause-made g c =
+    let d : Disk = c.args.reading.now.disk.disk in
+    let e : Disk = c.args.reading.now.parts.disk in
+    let older : Bool = c.in_ok-has_lost.is_older in
     inr (inl (
       older,
-      subst (λ (b : Bool). Finds d e b older) c.if-has_lost.true c.in_ok-has_lost.ensures,
-      c.save_readable.ensures.made,
+      subst (λ (b : Bool). Finds d e false older b) c.if-has_other.true
+          (subst (λ (b : Bool). Finds d e b older c.in_ok-has_lost.has_other) c.if-has_lost.false c.in_ok-has_lost.ensures),
+      c.save_named.ensures.made,
     ))
 
 pub returns-then-is_older-clause-made : goal.returns-then-is_older-clause-made
@@ -62,7 +78,8 @@ returns-then-is_older-clause-made g c =
     let made : Option Fault = result_err c.extract_mounted.result in
     let told : made ≡ None = search rules in
     inl (whole_made c.args.dir.now old.tree old.made new i d e true (Some c.from.result.fault) (ap Some c.from.ensures)
-    (found_so d e c.in_ok-has_lost.has_lost c.in_ok-has_lost.is_older true c.if-has_lost.false c.if-is_older.true c.in_ok-has_lost.ensures)
+    (found_so d e c.in_ok-has_lost.has_lost c.in_ok-has_lost.is_older true c.in_ok-has_lost.has_other c.if-has_lost.false c.if-is_older.true
+    c.if-has_other.false c.in_ok-has_lost.ensures)
     (subst (EndsMaking i (path_text []) c.args.dir.now old.tree old.made new) told c.extract_mounted.ensures.made))
 
 pub returns-clause-made : goal.returns-clause-made
@@ -75,5 +92,6 @@ returns-clause-made g c =
     let made : Option Fault = result_err c.extract_mounted.result in
     let told : made ≡ None = search rules in
     inl (whole_made c.args.dir.now old.tree old.made new i d e false None refl
-    (found_so d e c.in_ok-has_lost.has_lost c.in_ok-has_lost.is_older false c.if-has_lost.false c.if-is_older.false c.in_ok-has_lost.ensures)
+    (found_so d e c.in_ok-has_lost.has_lost c.in_ok-has_lost.is_older false c.in_ok-has_lost.has_other c.if-has_lost.false c.if-is_older.false
+    c.if-has_other.false c.in_ok-has_lost.ensures)
     (subst (EndsMaking i (path_text []) c.args.dir.now old.tree old.made new) told c.extract_mounted.ensures.made))

@@ -1,17 +1,18 @@
 -- The file of an entry is made where it is saved.
-use Rattle.std.proofs.Common.{◌≡◌, ◌∙◌, false, List, ℕ, Option, Some, None, ap, subst}
+use Rattle.std.proofs.Common.{◌≡◌, ◌∙◌, false, List, ℕ, Option, Some, None, ap, option_map, refl, subst}
+use Rattle.std.specs.Prelude.{IfOk}
 use Rattle.lfs_block.specs.Disk.{Disk}
 use Rattle.lfs_extract.specs.Making.{held_bytes}
 use Rattle.lfs_extract.proofs.MakingLemmas.{makes_nothing}
-use Rattle.lfs_extract.specs.PathBelow.{name_in}
 use Rattle.lfs_fs.specs.RowHeld.{row_body_held}
 use Rattle.lfs_host.specs.NewFolder.{Made, Makes}
 use Rattle.lfs_meta.specs.Entry.{StoredEntry}
-use Rattle.lfs_salvage.specs.AreaMade.{file_made}
+use Rattle.lfs_salvage.specs.AreaMade.{file_made, is_nameless}
 use Rattle.lfs_salvage.specs.Fate.{saved_bytes}
 use Rattle.lfs_salvage.specs.FateHeld.{fate_held}
 use Rattle.lfs_salvage.specs.Saving.{Saves}
-use Rattle.lfs_salvage.specs.Word.{entry_word}
+use Rattle.lfs_salvage.specs.Word.{word_in}
+use Rattle.lfs_salvage.specs.declared.wording.Wording.TheVariants.{Own}
 use Rattle.lfs_salvage.proofs.saving_entries.make_entry.Goals as goal
 
 pub make_named-requires : goal.make_named-requires
@@ -30,8 +31,10 @@ returns-clause-made g c =
       made.0,
       subst (λ (m : List Made). Saves c.make_named.result (g.F.Known.known c.args.folder.now).made
           (g.F.Known.known c.make_named.new.folder).made m)
-          (ap (λ (n : List ℕ). file_made (name_in above (entry_word made.0 c.args.block c.args.index n)) (Some bytes)) named
-          ∙ ap (λ (o : Option (List ℕ)). file_made (name_in above (entry_word made.0 c.args.block c.args.index c.args.entry.now.name)) o) saved) made.1,
+          (ap (λ (n : List ℕ). file_made (option_map (word_in above c.args.block c.args.index n) made.0) (Some bytes)) named
+          ∙ ap (λ (o : Option (List ℕ)). file_made (option_map (word_in above c.args.block c.args.index c.args.entry.now.name) made.0) o) saved)
+          made.1,
+      subst (λ (o : Option (List ℕ)). IfOk c.make_named.result (λ nameless. nameless ≡ is_nameless made.0 o)) saved made.2,
     )
 
 pub returns-in_default-clause-made : goal.returns-in_default-clause-made
@@ -40,7 +43,8 @@ returns-in_default-clause-made g c =
     let old : Option (List Made) = (g.F.Known.known c.args.folder.now).made in
     let none : None ≡ saved_bytes d c.args.entry.now.body (fate_held c.args.body.now) =
     c.in_default.ensures.bytes d ∙ ap (λ (e : StoredEntry). saved_bytes d e.body (fate_held c.args.body.now)) c.entry.view_is in (
-      false,
-      subst (λ (o : Option (List ℕ)). Makes old old
-          (file_made (name_in c.args.above.now (entry_word false c.args.block c.args.index c.args.entry.now.name)) o)) none (makes_nothing old),
+      Some Own,
+      subst (λ (o : Option (List ℕ)). Makes old old (file_made (Some (word_in c.args.above.now c.args.block c.args.index c.args.entry.now.name Own)) o))
+          none (makes_nothing old),
+      subst (λ (o : Option (List ℕ)). false ≡ is_nameless (Some Own) o) none refl,
     )

@@ -1,17 +1,16 @@
 -- One entry after another.
-use Rattle.std.proofs.Common.{◌≡◌, ◌+◌, ◌∙◌, [], Bool, List, ℕ, Option, drop, refl, sym, subst}
+use Rattle.std.proofs.Common.{◌≡◌, ◌+◌, ◌∙◌, [], List, ℕ, Option, drop, refl, sym, subst}
 use Rattle.std.proofs.lemmas.List.{at_drop_all}
 use Rattle.std.proofs.lemmas.Result.{err_from_is_err_and}
 use Rattle.lfs_block.specs.Disk.{Disk}
 use Rattle.lfs_host.specs.NewFolder.{Made}
 use Rattle.lfs_meta.specs.Entry.{StoredEntry}
-use Rattle.lfs_salvage.specs.AreaMade.{entry_made, uses_by_entry, call_parent}
-use Rattle.lfs_salvage.specs.Fate.{fate}
-use Rattle.lfs_salvage.specs.Unsaved.{unsaved}
+use Rattle.lfs_salvage.specs.AreaMade.{entry_made, entry_unsaved, uses_by_entry, call_parent}
 use Rattle.lfs_salvage.specs.declared.block_use.BlockUse.{BlockUse}
 use Rattle.lfs_salvage.specs.declared.parent.Parent.{Parent}
 use Rattle.lfs_salvage.specs.declared.unsaved.Unsaved.{Unsaved}
-use Rattle.lfs_salvage.proofs.AreaLemmas.{IsDoing, Plan, all_made, all_told, doing_more, doing_stops, entries_more, entries_plan, nothing_done}
+use Rattle.lfs_salvage.specs.declared.wording.Wording.{Wording}
+use Rattle.lfs_salvage.proofs.AreaLemmas.{IsDoing, Plan, all_done, doing_more, doing_stops, entries_more, entries_plan, nothing_done}
 use Rattle.lfs_salvage.proofs.SavingLemmas.{below_then, nothing_below}
 use Rattle.lfs_salvage.proofs.saving_entries.save_entries.Goals as goal
 
@@ -41,14 +40,16 @@ returns-in_err-save_entry-clause-made g c =
     let parent : Parent = call_parent c.args.area c.args.call i in
     let before : List Unsaved = c.args.salvage.now.unsaved.items in
     let told : List Unsaved = c.each.salvage.unsaved.items in
-    let left : List Bool → Plan = entries_plan d above block uses c.args.area c.args.call i (drop i es) in
-    let complete : List Bool → Plan = entries_plan d above block c.args.salvage.now.uses.items c.args.area c.args.call 0 es in
+    let left : List (Option Wording) → Plan = entries_plan d above block uses c.args.area c.args.call i (drop i es) in
+    let complete : List (Option Wording) → Plan = entries_plan d above block c.args.salvage.now.uses.items c.args.area c.args.call 0 es in
     let made = c.in_err-save_entry.ensures.made in
     let p = err_from_is_err_and c.from_residual.result c.from_residual.ensures.1 in
-    rw (p.1, p.2) (doing_stops old mid before told left complete c.each.invariant.doing made.0 (entry_made d above made.0 block i uses e)
-    (unsaved parent (fate d uses e)) (entries_plan d above block (uses_by_entry d uses parent e) c.args.area c.args.call (i + 1) (drop (i + 1) es))
+    let stop =
+    doing_stops old mid before told left complete c.each.invariant.doing made.0 (entry_made d above block i made.0 uses e)
+    (entry_unsaved d parent made.0 uses e) (entries_plan d above block (uses_by_entry d uses parent e) c.args.area c.args.call (i + 1) (drop (i + 1) es))
     (λ rest. entries_more d above block uses c.args.area c.args.call i es e made.0 rest c.each-test.true c.index-entries-index.is) new
-    c.in_err-save_entry.field-0.0 made.1)
+    c.in_err-save_entry.field-0.0 made.1.0 in
+    rw (p.1, p.2) (stop.0, (stop.1, tt))
 
 pub returns-in_err-save_entry-clause-below : goal.returns-in_err-save_entry-clause-below
 returns-in_err-save_entry-clause-below g c = λ top above.
@@ -70,17 +71,17 @@ each-preserved g c =
     let parent : Parent = call_parent c.args.area c.args.call i in
     let before : List Unsaved = c.args.salvage.now.unsaved.items in
     let told : List Unsaved = c.each.salvage.unsaved.items in
-    let left : List Bool → Plan = entries_plan d above block uses c.args.area c.args.call i (drop i es) in
-    let complete : List Bool → Plan = entries_plan d above block c.args.salvage.now.uses.items c.args.area c.args.call 0 es in
+    let left : List (Option Wording) → Plan = entries_plan d above block uses c.args.area c.args.call i (drop i es) in
+    let complete : List (Option Wording) → Plan = entries_plan d above block c.args.salvage.now.uses.items c.args.area c.args.call 0 es in
     let more : List Unsaved = c.save_entry.new.salvage.unsaved.items in
-    let next : List BlockUse → List Bool → Plan = λ (t : List BlockUse).
+    let next : List BlockUse → List (Option Wording) → Plan = λ (t : List BlockUse).
     entries_plan d above block t c.args.area c.args.call (i + 1) (drop (i + 1) es) in
     let made = c.in_ok-save_entry.ensures.made in
     let done : IsDoing old new before more (next (uses_by_entry d uses parent e)) complete =
-    doing_more old mid before told left complete c.each.invariant.doing made.0 (entry_made d above made.0 block i uses e)
-    (unsaved parent (fate d uses e)) (next (uses_by_entry d uses parent e))
+    doing_more old mid before told left complete c.each.invariant.doing made.0 (entry_made d above block i made.0 uses e)
+    (entry_unsaved d parent made.0 uses e) (next (uses_by_entry d uses parent e))
     (λ rest. entries_more d above block uses c.args.area c.args.call i es e made.0 rest c.each-test.true c.index-entries-index.is) new more
-    made.1 c.in_ok-save_entry.ensures.unsaved in
+    made.1.0 made.1.1 in
     let used : c.save_entry.new.salvage.uses.items ≡ uses_by_entry d uses parent e = c.in_ok-save_entry.ensures.uses in
     record {
       doing = subst (λ (t : List BlockUse). IsDoing old new before more (next t) complete) (sym used) done;
@@ -100,14 +101,14 @@ returns-clause-made g c =
     let es : List StoredEntry = c.args.entries.now in
     let before : List Unsaved = c.args.salvage.now.unsaved.items in
     let told : List Unsaved = c.each.salvage.unsaved.items in
-    let plan : List StoredEntry → List Bool → Plan =
+    let plan : List StoredEntry → List (Option Wording) → Plan =
     entries_plan d c.args.above.now c.args.block c.each.salvage.uses.items c.args.area c.args.call c.each.index in
-    let complete : List Bool → Plan =
+    let complete : List (Option Wording) → Plan =
     entries_plan d c.args.above.now c.args.block c.args.salvage.now.uses.items c.args.area c.args.call 0 es in
     let done : IsDoing old new before told (plan []) complete =
-    subst (λ (left : List Bool → Plan). IsDoing old new before told left complete) (at_drop_all plan es c.each.index c.each-test.false)
+    subst (λ (left : List (Option Wording) → Plan). IsDoing old new before told left complete) (at_drop_all plan es c.each.index c.each-test.false)
     c.each.invariant.doing in
-    all_made old new before told (plan []) complete refl refl done
+    all_done old new before told (plan []) complete refl refl done
 
 pub returns-clause-uses : goal.returns-clause-uses
 returns-clause-uses g c =
@@ -117,28 +118,11 @@ returns-clause-uses g c =
     let es : List StoredEntry = c.args.entries.now in
     let before : List Unsaved = c.args.salvage.now.unsaved.items in
     let told : List Unsaved = c.each.salvage.unsaved.items in
-    let plan : List StoredEntry → List Bool → Plan =
+    let plan : List StoredEntry → List (Option Wording) → Plan =
     entries_plan d c.args.above.now c.args.block c.each.salvage.uses.items c.args.area c.args.call c.each.index in
-    let complete : List Bool → Plan =
+    let complete : List (Option Wording) → Plan =
     entries_plan d c.args.above.now c.args.block c.args.salvage.now.uses.items c.args.area c.args.call 0 es in
     let done : IsDoing old new before told (plan []) complete =
-    subst (λ (left : List Bool → Plan). IsDoing old new before told left complete) (at_drop_all plan es c.each.index c.each-test.false)
+    subst (λ (left : List (Option Wording) → Plan). IsDoing old new before told left complete) (at_drop_all plan es c.each.index c.each-test.false)
     c.each.invariant.doing in
     (done.doing []).uses
-
-pub returns-clause-unsaved : goal.returns-clause-unsaved
-returns-clause-unsaved g c =
-    let d : Disk = g.B.Blocks.disk c.args.disk.now in
-    let old : Option (List Made) = (g.F.Known.known c.args.folder.now).made in
-    let new : Option (List Made) = (g.F.Known.known c.each.folder).made in
-    let es : List StoredEntry = c.args.entries.now in
-    let before : List Unsaved = c.args.salvage.now.unsaved.items in
-    let told : List Unsaved = c.each.salvage.unsaved.items in
-    let plan : List StoredEntry → List Bool → Plan =
-    entries_plan d c.args.above.now c.args.block c.each.salvage.uses.items c.args.area c.args.call c.each.index in
-    let complete : List Bool → Plan =
-    entries_plan d c.args.above.now c.args.block c.args.salvage.now.uses.items c.args.area c.args.call 0 es in
-    let done : IsDoing old new before told (plan []) complete =
-    subst (λ (left : List Bool → Plan). IsDoing old new before told left complete) (at_drop_all plan es c.each.index c.each-test.false)
-    c.each.invariant.doing in
-    all_told old new before told (plan []) complete refl refl done

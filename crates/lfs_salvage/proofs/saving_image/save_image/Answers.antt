@@ -40,7 +40,7 @@ returns-in_err-save_survey-clause-stopped g c =
     let made = c.in_err-save_survey.ensures.made in
     rw (p.1, p.2) (stops_surveyed d e dir old mid survey c.in_ok-survey.ensures made.0 c.in_err-save_survey.field-0.0
     (subst (λ (m : List Made). Stops c.in_err-save_survey.field-0.0 old mid m)
-    (part_is_made d dir lost uses areas c.deref-3.result.now there begun c.deref-3.ensures.value made.0) made.1))
+    (part_is_made d dir lost uses areas c.deref-3.result.now there begun c.deref-3.ensures.value made.0) made.1.0))
 
 pub returns-in_err-lone-clause-stopped : goal.returns-in_err-lone-clause-stopped
 returns-in_err-lone-clause-stopped g c =
@@ -62,7 +62,7 @@ returns-in_err-lone-clause-stopped g c =
     let all = c.in_ok-save_survey.ensures.made in
     let made : Makes old mid (survey_part d dir all.0 areas) =
     subst (λ (m : List Made). Makes old mid m)
-    (part_is_made d dir lost uses areas c.deref-3.result.now there begun c.deref-3.ensures.value all.0) all.1 in
+    (part_is_made d dir lost uses areas c.deref-3.result.now there begun c.deref-3.ensures.value all.0) all.1.0 in
     let p = err_from_is_err_and c.from_residual-in_err-lone.result c.from_residual-in_err-lone.ensures.1 in
     rw (p.1, p.2) (stops_surveyed d e dir old mid survey c.in_ok-survey.ensures all.0 Memory
     (all_first old mid (survey_part d dir all.0 areas) made))
@@ -88,21 +88,22 @@ returns-in_err-save_all_lost-clause-stopped g c =
     let used : List BlockUse = c.save_survey.new.salvage.uses.items in
     let told : List Unsaved = c.save_survey.new.salvage.unsaved.items in
     let front : Front = c.save_survey.new.front in
+    let all = c.in_ok-save_survey.ensures.made in
     let h : HasSurvey d dir areas old mid used told front =
     has_survey d dir lost uses areas c.deref-3.result.now there begun c.deref-3.ensures.value old mid used
-    c.in_ok-salvage.salvage.unsaved.items told front c.in_ok-save_survey.ensures.made c.in_ok-save_survey.ensures.uses
-    c.in_ok-save_survey.ensures.unsaved c.in_ok-salvage.ensures.unsaved c.in_ok-save_survey.ensures.front in
+    c.in_ok-salvage.salvage.unsaved.items told front all.0 all.1.0 c.in_ok-save_survey.ensures.uses all.1.1 c.in_ok-salvage.ensures.unsaved
+    c.in_ok-save_survey.ensures.front in
     let lone : List Area = c.in_ok-lone.lone.items in
     let left : AreLeft e survey (survey_uses d (uses_first d areas) areas) lone =
     subst (λ (t : List BlockUse). AreLeft e survey t lone) (c.deref-4.ensures.value ∙ h.used) c.in_ok-lone.ensures.left in
     let counted : c.len-first.result ≡ length areas = c.len-first.ensures ∙ ap vec_len c.find_left.ensures.areas ∙ survey.areas.ok.0 in
     let others = c.in_err-save_all_lost.ensures.made in
-    let stop : Stops c.in_err-save_all_lost.field-0.0 old new (image_made d dir h.numbered others.0 areas lone) =
+    let stop : Stops c.in_err-save_all_lost.field-0.0 old new (image_made d dir h.words others.0 areas lone) =
     complete_saves d dir lost areas lone c.deref-5.result.now c.deref-6.result.now old mid used c.mark_areas.new.self.uses.items told front
     c.len-first.result h there counted c.mark_areas.ensures.uses c.deref-5.ensures.value c.deref-6.ensures.value others.0
-    (Err c.in_err-save_all_lost.field-0.0) new others.1 in
+    (Err c.in_err-save_all_lost.field-0.0) new others.1.0 in
     let p = err_from_is_err_and c.from_residual-in_err-save_all_lost.result c.from_residual-in_err-save_all_lost.ensures.1 in
-    rw (p.1, p.2) (stops_left d e dir old new survey c.in_ok-survey.ensures h.numbered lone others.0 left
+    rw (p.1, p.2) (stops_left d e dir old new survey c.in_ok-survey.ensures h.words lone others.0 left
     c.in_err-save_all_lost.field-0.0 stop)
 
 pub returns-in_err-save_all_lost-clause-below : goal.returns-in_err-save_all_lost-clause-below
@@ -131,22 +132,23 @@ returns-in_err-append-clause-stopped g c =
     let used : List BlockUse = c.save_survey.new.salvage.uses.items in
     let told : List Unsaved = c.save_survey.new.salvage.unsaved.items in
     let front : Front = c.save_survey.new.front in
+    let all = c.in_ok-save_survey.ensures.made in
     let h : HasSurvey d dir areas old mid used told front =
     has_survey d dir lost uses areas c.deref-3.result.now there begun c.deref-3.ensures.value old mid used
-    c.in_ok-salvage.salvage.unsaved.items told front c.in_ok-save_survey.ensures.made c.in_ok-save_survey.ensures.uses
-    c.in_ok-save_survey.ensures.unsaved c.in_ok-salvage.ensures.unsaved c.in_ok-save_survey.ensures.front in
+    c.in_ok-salvage.salvage.unsaved.items told front all.0 all.1.0 c.in_ok-save_survey.ensures.uses all.1.1 c.in_ok-salvage.ensures.unsaved
+    c.in_ok-save_survey.ensures.front in
     let lone : List Area = c.in_ok-lone.lone.items in
     let left : AreLeft e survey (survey_uses d (uses_first d areas) areas) lone =
     subst (λ (t : List BlockUse). AreLeft e survey t lone) (c.deref-4.ensures.value ∙ h.used) c.in_ok-lone.ensures.left in
     let counted : c.len-first.result ≡ length areas = c.len-first.ensures ∙ ap vec_len c.find_left.ensures.areas ∙ survey.areas.ok.0 in
     let others = c.in_ok-save_all_lost.ensures.made in
-    let made : Makes old new (image_made d dir h.numbered others.0 areas lone) =
+    let made : Makes old new (image_made d dir h.words others.0 areas lone) =
     complete_saves d dir lost areas lone c.deref-5.result.now c.deref-6.result.now old mid used c.mark_areas.new.self.uses.items told front
     c.len-first.result h there counted c.mark_areas.ensures.uses c.deref-5.ensures.value c.deref-6.ensures.value others.0 (Ok tt) new
-    others.1 in
+    others.1.0 in
     let p = err_from_is_err_and c.from_residual-in_err-append.result c.from_residual-in_err-append.ensures.1 in
-    rw (p.1, p.2) (stops_left d e dir old new survey c.in_ok-survey.ensures h.numbered lone others.0 left Memory
-    (all_first old new (image_made d dir h.numbered others.0 areas lone) made))
+    rw (p.1, p.2) (stops_left d e dir old new survey c.in_ok-survey.ensures h.words lone others.0 left Memory
+    (all_first old new (image_made d dir h.words others.0 areas lone) made))
 
 pub returns-in_err-append-clause-below : goal.returns-in_err-append-clause-below
 returns-in_err-append-clause-below g c =
@@ -174,10 +176,11 @@ returns-clause-saved g c =
     let used : List BlockUse = c.save_survey.new.salvage.uses.items in
     let told : List Unsaved = c.save_survey.new.salvage.unsaved.items in
     let front : Front = c.save_survey.new.front in
+    let all = c.in_ok-save_survey.ensures.made in
     let h : HasSurvey d dir areas old mid used told front =
     has_survey d dir lost uses areas c.deref-3.result.now there begun c.deref-3.ensures.value old mid used
-    c.in_ok-salvage.salvage.unsaved.items told front c.in_ok-save_survey.ensures.made c.in_ok-save_survey.ensures.uses
-    c.in_ok-save_survey.ensures.unsaved c.in_ok-salvage.ensures.unsaved c.in_ok-save_survey.ensures.front in
+    c.in_ok-salvage.salvage.unsaved.items told front all.0 all.1.0 c.in_ok-save_survey.ensures.uses all.1.1 c.in_ok-salvage.ensures.unsaved
+    c.in_ok-save_survey.ensures.front in
     let lone : List Area = c.in_ok-lone.lone.items in
     let left : AreLeft e survey (survey_uses d (uses_first d areas) areas) lone =
     subst (λ (t : List BlockUse). AreLeft e survey t lone) (c.deref-4.ensures.value ∙ h.used) c.in_ok-lone.ensures.left in
@@ -187,6 +190,8 @@ returns-clause-saved g c =
     record {
       survey = survey;
       lone = lone;
+      words = h.words;
+      others = others.0;
       is = record {
         surveyed = c.in_ok-survey.ensures;
         left = left;
@@ -195,15 +200,12 @@ returns-clause-saved g c =
             c.len-first.result h there counted c.mark_areas.ensures.uses c.deref-5.ensures.value c.deref-6.ensures.value
             c.save_all_lost.new.salvage.uses.items c.in_ok-save_all_lost.ensures.uses;
         unsaved = complete_unsaved d dir lost areas lone c.deref-5.result.now c.deref-6.result.now old mid used between told front
-            c.len-first.result h there counted c.mark_areas.ensures.uses c.deref-5.ensures.value c.deref-6.ensures.value
-            c.save_all_lost.new.salvage.unsaved.items
-            (rw c.mark_areas.ensures.unsaved at c.in_ok-save_all_lost.ensures.unsaved);
+            c.len-first.result h there counted c.mark_areas.ensures.uses c.deref-5.ensures.value c.deref-6.ensures.value others.0
+            c.save_all_lost.new.salvage.unsaved.items (rw c.mark_areas.ensures.unsaved at others.1.1);
       };
-      numbered = h.numbered;
-      others = others.0;
       made = complete_saves d dir lost areas lone c.deref-5.result.now c.deref-6.result.now old mid used between told front
           c.len-first.result h there counted c.mark_areas.ensures.uses c.deref-5.ensures.value c.deref-6.ensures.value others.0 (Ok tt) new
-          others.1;
+          others.1.0;
     }
 
 pub returns-clause-below : goal.returns-clause-below

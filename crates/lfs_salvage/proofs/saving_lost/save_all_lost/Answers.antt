@@ -6,11 +6,11 @@ use Rattle.lfs_block.specs.Disk.{Disk}
 use Rattle.lfs_host.specs.NewFolder.{Made}
 use Rattle.lfs_salvage.specs.AllMade.{front_behind_all, lost_made, lost_unsaved, lost_uses}
 use Rattle.lfs_salvage.specs.Lost.{front_behind}
-use Rattle.lfs_salvage.specs.Numbered.{Numbered}
+use Rattle.lfs_salvage.specs.CallWords.{CallWords}
 use Rattle.lfs_salvage.specs.declared.block_use.BlockUse.{BlockUse}
 use Rattle.lfs_salvage.specs.declared.front.Front.{Front}
 use Rattle.lfs_salvage.specs.declared.unsaved.Unsaved.{Unsaved}
-use Rattle.lfs_salvage.proofs.AreaLemmas.{IsDoing, Plan, all_made, all_told, doing_more, doing_stops, nothing_done}
+use Rattle.lfs_salvage.proofs.AreaLemmas.{IsDoing, Plan, all_done, doing_more, doing_stops, nothing_done}
 use Rattle.lfs_salvage.proofs.LostLemmas.{front_more, lost_more, lost_plan}
 use Rattle.lfs_salvage.proofs.SavingLemmas.{below_then, nothing_below}
 use Rattle.lfs_survey.specs.declared.area.Area.{Area}
@@ -21,7 +21,7 @@ each-init g c =
     let d : Disk = g.B.Blocks.disk c.args.disk.now in
     let old : Option (List Made) = (g.F.Known.known c.args.folder.now).made in
     let before : List Unsaved = c.args.salvage.now.unsaved.items in
-    let plan : ℕ → List (List Numbered) → Plan = λ (n : ℕ).
+    let plan : ℕ → List (List CallWords) → Plan = λ (n : ℕ).
     lost_plan d c.args.dir.now c.args.lost.now c.args.front.now n c.args.salvage.now.uses.items c.args.areas.now in
     let none : c.args.first + 0 ≡ c.args.first = omega arith in
     record {
@@ -46,16 +46,18 @@ returns-in_err-save_lost-clause-made g c =
     let uses : List BlockUse = c.each.salvage.uses.items in
     let before : List Unsaved = c.args.salvage.now.unsaved.items in
     let told : List Unsaved = c.each.salvage.unsaved.items in
-    let left : List (List Numbered) → Plan = lost_plan d dir lost c.each.front n uses (drop c.each.number areas) in
-    let complete : List (List Numbered) → Plan = lost_plan d dir lost c.args.front.now c.args.first c.args.salvage.now.uses.items areas in
-    let next : Front → ℕ → List BlockUse → List (List Numbered) → Plan = λ (front : Front) (m : ℕ) (t : List BlockUse).
+    let left : List (List CallWords) → Plan = lost_plan d dir lost c.each.front n uses (drop c.each.number areas) in
+    let complete : List (List CallWords) → Plan = lost_plan d dir lost c.args.front.now c.args.first c.args.salvage.now.uses.items areas in
+    let next : Front → ℕ → List BlockUse → List (List CallWords) → Plan = λ (front : Front) (m : ℕ) (t : List BlockUse).
     lost_plan d dir lost front m t (drop (c.each.number + 1) areas) in
     let made = c.in_err-save_lost.ensures.made in
     let p = err_from_is_err_and c.from_residual.result c.from_residual.ensures.1 in
-    rw (p.1, p.2) (doing_stops old mid before told left complete c.each.invariant.doing made.0 (lost_made d dir lost c.each.front n made.0 uses a)
-    (lost_unsaved d n uses a) (next (front_behind c.each.front a) (n + 1) (lost_uses d n uses a))
+    let stop =
+    doing_stops old mid before told left complete c.each.invariant.doing made.0 (lost_made d dir lost c.each.front n made.0 uses a)
+    (lost_unsaved d n made.0 uses a) (next (front_behind c.each.front a) (n + 1) (lost_uses d n uses a))
     (λ rest. lost_more d dir lost c.each.front n c.each.number uses areas a made.0 rest c.each-test.true c.index-areas-number.is) new
-    c.in_err-save_lost.field-0.0 made.1)
+    c.in_err-save_lost.field-0.0 made.1.0 in
+    rw (p.1, p.2) (stop.0, (stop.1, tt))
 
 pub returns-in_err-save_lost-clause-below : goal.returns-in_err-save_lost-clause-below
 returns-in_err-save_lost-clause-below g c =
@@ -76,17 +78,17 @@ each-preserved g c =
     let uses : List BlockUse = c.each.salvage.uses.items in
     let before : List Unsaved = c.args.salvage.now.unsaved.items in
     let told : List Unsaved = c.each.salvage.unsaved.items in
-    let left : List (List Numbered) → Plan = lost_plan d dir lost c.each.front n uses (drop c.each.number areas) in
-    let complete : List (List Numbered) → Plan = lost_plan d dir lost c.args.front.now c.args.first c.args.salvage.now.uses.items areas in
-    let next : Front → ℕ → List BlockUse → List (List Numbered) → Plan = λ (front : Front) (m : ℕ) (t : List BlockUse).
+    let left : List (List CallWords) → Plan = lost_plan d dir lost c.each.front n uses (drop c.each.number areas) in
+    let complete : List (List CallWords) → Plan = lost_plan d dir lost c.args.front.now c.args.first c.args.salvage.now.uses.items areas in
+    let next : Front → ℕ → List BlockUse → List (List CallWords) → Plan = λ (front : Front) (m : ℕ) (t : List BlockUse).
     lost_plan d dir lost front m t (drop (c.each.number + 1) areas) in
     let more : List Unsaved = c.save_lost.new.salvage.unsaved.items in
     let made = c.in_ok-save_lost.ensures.made in
     let done : IsDoing old new before more (next (front_behind c.each.front a) (n + 1) (lost_uses d n uses a)) complete =
     doing_more old mid before told left complete c.each.invariant.doing made.0 (lost_made d dir lost c.each.front n made.0 uses a)
-    (lost_unsaved d n uses a) (next (front_behind c.each.front a) (n + 1) (lost_uses d n uses a))
+    (lost_unsaved d n made.0 uses a) (next (front_behind c.each.front a) (n + 1) (lost_uses d n uses a))
     (λ rest. lost_more d dir lost c.each.front n c.each.number uses areas a made.0 rest c.each-test.true c.index-areas-number.is) new more
-    made.1 c.in_ok-save_lost.ensures.unsaved in
+    made.1.0 made.1.1 in
     let used : c.save_lost.new.salvage.uses.items ≡ lost_uses d n uses a = c.in_ok-save_lost.ensures.uses in
     let lacks : c.save_lost.new.front ≡ front_behind c.each.front a = c.in_ok-save_lost.ensures.front in
     let step : front_behind_all c.each.front (drop c.each.number areas)
@@ -119,14 +121,14 @@ returns-clause-made g c =
     let areas : List Area = c.args.areas.now in
     let before : List Unsaved = c.args.salvage.now.unsaved.items in
     let told : List Unsaved = c.each.salvage.unsaved.items in
-    let plan : List Area → List (List Numbered) → Plan =
+    let plan : List Area → List (List CallWords) → Plan =
     lost_plan d c.args.dir.now c.args.lost.now c.each.front (c.args.first + c.each.number) c.each.salvage.uses.items in
-    let complete : List (List Numbered) → Plan =
+    let complete : List (List CallWords) → Plan =
     lost_plan d c.args.dir.now c.args.lost.now c.args.front.now c.args.first c.args.salvage.now.uses.items areas in
     let done : IsDoing old new before told (plan []) complete =
-    subst (λ (left : List (List Numbered) → Plan). IsDoing old new before told left complete)
+    subst (λ (left : List (List CallWords) → Plan). IsDoing old new before told left complete)
     (at_drop_all plan areas c.each.number c.each-test.false) c.each.invariant.doing in
-    all_made old new before told (plan []) complete refl refl done
+    all_done old new before told (plan []) complete refl refl done
 
 pub returns-clause-uses : goal.returns-clause-uses
 returns-clause-uses g c =
@@ -136,28 +138,11 @@ returns-clause-uses g c =
     let areas : List Area = c.args.areas.now in
     let before : List Unsaved = c.args.salvage.now.unsaved.items in
     let told : List Unsaved = c.each.salvage.unsaved.items in
-    let plan : List Area → List (List Numbered) → Plan =
+    let plan : List Area → List (List CallWords) → Plan =
     lost_plan d c.args.dir.now c.args.lost.now c.each.front (c.args.first + c.each.number) c.each.salvage.uses.items in
-    let complete : List (List Numbered) → Plan =
+    let complete : List (List CallWords) → Plan =
     lost_plan d c.args.dir.now c.args.lost.now c.args.front.now c.args.first c.args.salvage.now.uses.items areas in
     let done : IsDoing old new before told (plan []) complete =
-    subst (λ (left : List (List Numbered) → Plan). IsDoing old new before told left complete)
+    subst (λ (left : List (List CallWords) → Plan). IsDoing old new before told left complete)
     (at_drop_all plan areas c.each.number c.each-test.false) c.each.invariant.doing in
     (done.doing []).uses
-
-pub returns-clause-unsaved : goal.returns-clause-unsaved
-returns-clause-unsaved g c =
-    let d : Disk = g.B.Blocks.disk c.args.disk.now in
-    let old : Option (List Made) = (g.F.Known.known c.args.folder.now).made in
-    let new : Option (List Made) = (g.F.Known.known c.each.folder).made in
-    let areas : List Area = c.args.areas.now in
-    let before : List Unsaved = c.args.salvage.now.unsaved.items in
-    let told : List Unsaved = c.each.salvage.unsaved.items in
-    let plan : List Area → List (List Numbered) → Plan =
-    lost_plan d c.args.dir.now c.args.lost.now c.each.front (c.args.first + c.each.number) c.each.salvage.uses.items in
-    let complete : List (List Numbered) → Plan =
-    lost_plan d c.args.dir.now c.args.lost.now c.args.front.now c.args.first c.args.salvage.now.uses.items areas in
-    let done : IsDoing old new before told (plan []) complete =
-    subst (λ (left : List (List Numbered) → Plan). IsDoing old new before told left complete)
-    (at_drop_all plan areas c.each.number c.each-test.false) c.each.invariant.doing in
-    all_told old new before told (plan []) complete refl refl done
