@@ -14,9 +14,9 @@ ODD = "a\nlfsed: b\x1b[2Jc\rd\x7fe\x80f\x9fg\xa0h\xe9\u20ac\\x"
 SHOWN = "a\\x0alfsed: b\\x1b[2Jc\\x0dd\\x7fe\\xc2\\x80f\\xc2\\x9fg\xa0h\xe9\u20ac\\x"
 
 
-def run(folder, *words, typed=b""):
+def run(folder, *words):
     """Runs the program; answers its status and what it complained."""
-    ended = subprocess.run([PROGRAM, *words], cwd=folder.room.name, input=typed, capture_output=True, timeout=60)
+    ended = subprocess.run([PROGRAM, *words], cwd=folder.room.name, input=b"", capture_output=True, timeout=60)
     return ended.returncode, ended.stderr.decode()
 
 
@@ -71,15 +71,5 @@ def words_of_the_command_line(folder):
         folder.check(f"{words} in JSON", ended[0] == 2 and all(json.loads(line) for line in ended[1].splitlines()), ended)
 
 
-def long_lines_of_scripts(folder):
-    """Of a line of a script that is refused 200 bytes are told."""
-    folder.check("format", run(folder, "format", "-b", "512", "--count", "8", "a.img") == (0, ""))
-    wrong = "line 1, column 1: no step begins so, 'lfsed explain 65' says which there are: "
-    for length in 199, 200, 201, 100_000:
-        status, told = run(folder, "batch", "-b", "512", "a.img", typed=b"x" * length)
-        line = "x" * length if length <= 200 else "x" * 200 + "..."
-        folder.check(f"{length} bytes", (status, told) == (2, f"lfsed: 65 BadLine\nlfsed: standard input: {wrong}{line}\n"), told[:400])
-
-
 if __name__ == "__main__":
-    sys.exit(run_scenes([names_of_the_host, words_of_the_command_line, long_lines_of_scripts]))
+    sys.exit(run_scenes([names_of_the_host, words_of_the_command_line]))

@@ -219,9 +219,9 @@ def is_deep(folder, what, names, size, count):
 
 
 def long_paths(folder):
-    """Paths of more than 8,000 bytes, of which the system takes 4,095 at once, and folders that are 2,500 deep."""
+    """Paths of more than 8,000 bytes, of which the system takes 4,095 at once, and folders that are 600 deep."""
     is_deep(folder, "40 names of 200 letters", [chr(97 + n % 26) * 200 for n in range(40)], 512, 128)
-    is_deep(folder, "2,500 names", ["d"] * 2_500, 256, 8_192)
+    is_deep(folder, "600 names of 8 letters", ["somewhat"] * 600, 256, 2_048)
 
 
 def deep_and_wide(folder):
