@@ -54,7 +54,7 @@ fn without_words(terminal: &mut Terminal<'_>, error: io::Error) -> u8 {
 fn is_json_asked(rt: &HostRuntime) -> bool {
     let mut word = [0; JSON.len()];
     match rt.arg(1, &mut word) {
-        Ok(len) => word[..len] == *JSON,
+        Ok(len) => &word[..len] == JSON.as_slice(),
         Err(_) => false,
     }
 }
