@@ -392,7 +392,7 @@ impl Host for Terminal<'_> {
 
     fn find(&mut self, alloc: Global, name: &str, most: u64) -> Result<Vec<u8>, ReadFault> {
         match read_bytes(self.rt, alloc, name, 0, most) {
-            Ok((bytes, _)) => Ok(bytes),
+            Ok((bytes, _file)) => Ok(bytes),
             Err(error) if error.kind() == ErrorKind::NotFound => Ok(Vec::new(alloc)),
             Err(error) => {
                 self.subject = Subject::Journal;
