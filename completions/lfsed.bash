@@ -50,7 +50,7 @@ _lfsed() {
       words='IMAGE SOURCE'
       ;;
     find)
-      options='--device -h --help'
+      options='--device --json -h --help'
       words='FLASH'
       ;;
     extract)
@@ -138,7 +138,7 @@ _lfsed() {
       words='IMAGE FILE'
       ;;
     explain)
-      options='-h --help'
+      options='--json -h --help'
       words='FAULT'
       ;;
     help) words='COMMAND' ;;

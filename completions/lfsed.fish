@@ -101,6 +101,7 @@ complete -c lfsed -n '__fish_seen_subcommand_from repack' -l older -d 'Go on wit
 complete -c lfsed -n '__fish_seen_subcommand_from repack' -s h -l help -d 'Print help'
 complete -c lfsed -n '__lfsed_at find 0' -F
 complete -c lfsed -n '__fish_seen_subcommand_from find' -l device -d 'Read the image as a device does: also disk version 2.1, and a superblock that was expanded'
+complete -c lfsed -n '__fish_seen_subcommand_from find' -l json -d 'Print an object of JSON a line'
 complete -c lfsed -n '__fish_seen_subcommand_from find' -s h -l help -d 'Print help'
 complete -c lfsed -n '__lfsed_at extract 0' -F
 complete -c lfsed -n '__lfsed_at extract 1' -a '(__fish_complete_directories)'
@@ -238,4 +239,5 @@ complete -c lfsed -n '__fish_seen_subcommand_from batch' -l inline-max -x -d 'Gr
 complete -c lfsed -n '__fish_seen_subcommand_from batch' -l keep -x -d 'Number of the latest changes that are kept, from 1 to 1000; all where it is not said'
 complete -c lfsed -n '__fish_seen_subcommand_from batch' -s h -l help -d 'Print help'
 complete -c lfsed -n '__lfsed_at explain 0' -a '1 2 3 4 5 6 7 8 9 10 11 12 13 14 15 16 17 18 19 20 21 22 30 31 32 33 34 35 36 37 38 39 40 41 42 43 44 46 50 51 52 53 54 55 56 60 61 62 63 64 65 ImageLength BadGeometry NoValidCommit UnknownTag BadTag IncompleteEntry BadName BadSkipList NoSuperblock Version Geometry Limits OrderFault BlockRange BlockTwice MissingDirectory Orphan UnfinishedMove SuperblockElsewhere BadSize UnknownState DamagedCommit NotFound Exists NotADirectory IsADirectory NotEmpty BadPath NameTooLong FileTooLarge AttrTooLarge NoAttr IntoItself IsRoot EntryTooLarge NoSpace Memory BadCount JournalFormat JournalMismatch JournalImage NothingToUndo NothingToRedo JournalFull JournalHasChanges CannotRead CannotWrite HostEntry HostName BadHex BadLine'
+complete -c lfsed -n '__fish_seen_subcommand_from explain' -l json -d 'Print an object of JSON a line'
 complete -c lfsed -n '__fish_seen_subcommand_from explain' -s h -l help -d 'Print help'
