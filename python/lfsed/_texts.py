@@ -8,7 +8,6 @@ from typing import Any, Dict, Iterable, List, Optional, Tuple
 
 from ._records import BlockRange, BlockSum, Change, Difference, Limits, Place, Row, Summary
 
-PLACE = re.compile(r"0x([0-9a-f]+)  version (\S+)  block ([0-9]+)  count ([0-9]+)  ([0-9]+) bytes  (.*)")
 MARKS = {"removed": "-", "added": "+", "contents": "~", "limits": "~"}
 
 
@@ -101,18 +100,15 @@ def sums(printed: bytes) -> List[BlockSum]:
     return [BlockSum(said["kind"], path_if_any(said), said["blocks"]) for said in objects(printed)]
 
 
-def place(line: str) -> Place:
-    """The place that a line of `find` says."""
-    found = PLACE.fullmatch(line)
-    if not found:
-        raise ValueError(f"a line of find that isn't known: {line}")
-    block, count, size = map(int, found.group(3, 4, 5))
-    return Place(int(found[1], 16), found[2], block, count, size, None if found[6] == "mounts" else found[6])
+def place(said: Dict[str, Any]) -> Place:
+    """The place that an object says."""
+    fault = f"{said['fault']} {said['name']}" if "fault" in said else None
+    return Place(said["at"], said["version"], said["block"], said["count"], said["bytes"], fault)
 
 
 def places(printed: bytes) -> List[Place]:
-    """The places that `find` prints, one a line."""
-    return [place(line) for line in printed.decode("utf-8").splitlines()]
+    """The places that `find` prints."""
+    return [place(said) for said in objects(printed)]
 
 
 def summary(printed: bytes) -> Summary:
