@@ -3,6 +3,7 @@
 each line leaves, and what is refused is told with its line. The scripts and what they leave were written by hand; a reader apart from
 the program says what stands in an image."""
 import os
+import resource
 import subprocess
 import sys
 
@@ -332,6 +333,22 @@ def files_of_the_host(folder):
     folder.check("no image", ended == (4, f"lfsed: {NOT_READ}\nlfsed: a.img: {NOTHING_THERE}\n", b""), ended)
 
 
+def limit_memory():
+    """No more than 160 MB of addresses."""
+    resource.setrlimit(resource.RLIMIT_AS, (160_000_000, 160_000_000))
+
+
+def a_file_is_read_once(folder):
+    """A script that puts a file of 4 MB a hundred times keeps its contents once."""
+    folder.image.with_name("big").write_bytes(contents(4_000_000))
+    folder.image.with_name("script").write_text("put /f big\n" * 100)
+    folder.check("format", folder.run("format --block 4096 --count 4096 a.img") == (0, "", b""))
+    ended = folder.run("batch --block 4096 --keep 1 a.img script", preexec_fn=limit_memory)
+    folder.check("one file for a hundred lines", ended == (0, "", b""), ended)
+    held = folder.run("cat --block 4096 a.img /f")[2]
+    folder.check("its contents", held == contents(4_000_000), len(held))
+
+
 def scripts_that_are_not_read(folder):
     batch = Batch(folder)
     before = batch.files()
@@ -500,6 +517,7 @@ if __name__ == "__main__":
         what_is_made_in_a_script_counts,
         paths_of_any_bytes,
         files_of_the_host,
+        a_file_is_read_once,
         scripts_that_are_not_read,
         scripts_without_steps,
         lines_that_say_no_step,
